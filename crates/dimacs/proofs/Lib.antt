@@ -1,0 +1,3 @@
+pub mod Pushed
+pub mod Digits
+pub mod Coming

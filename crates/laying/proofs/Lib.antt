@@ -1,0 +1,5 @@
+pub mod Grown
+pub mod Pushed
+pub mod Turns
+pub mod Rows
+pub mod Loops

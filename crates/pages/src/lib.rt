@@ -1,0 +1,2 @@
+// The text that the page program prints.
+pub mod printing;

@@ -1,0 +1,4 @@
+pub mod Lists
+pub mod Views
+pub mod Faults
+pub mod Tables

@@ -1,0 +1,6 @@
+pub mod Layers
+pub mod Lists
+pub mod Says
+pub mod Next
+pub mod Records
+pub mod Opens

@@ -1,0 +1,3 @@
+// Why a call is refused, and the limits that calls are held to.
+pub mod limits;
+pub mod refusal;
