@@ -17,5 +17,9 @@ fn run(rt: &LibcRuntime) -> Result<(), AnyError> {
 }
 
 fn main(rt: LibcRuntime) -> Result<(), AnyError> {
-    rt.report(run(&rt))
+    let result = run(&rt);
+    if let Err(e) = &result {
+        let _ = eprintln!(rt, "{e}");
+    }
+    result
 }
