@@ -62,10 +62,16 @@ fn measure(rt: &LibcRuntime, problem: &Problem, k: u32) -> Result<(), AnyError> 
     let clauses = MOST_HELD - store.room().clauses.min(MOST_HELD);
     let literals = MOST_HELD - store.room().literals.min(MOST_HELD);
     let bytes = page.len();
-    println!(rt, "depth {k}: {clauses} clauses, {literals} literals, {bytes} bytes")?;
+    println!(
+        rt,
+        "depth {k}: {clauses} clauses, {literals} literals, {bytes} bytes"
+    )?;
     let laying = laid.as_micros();
     let all = written.as_micros();
-    eprintln!(rt, "depth {k}: laid in {laying} us, laid and written in {all} us")?;
+    eprintln!(
+        rt,
+        "depth {k}: laid in {laying} us, laid and written in {all} us"
+    )?;
     Ok(())
 }
 
