@@ -1,6 +1,5 @@
 // What a meter does.
 ghost use mathlib.Core.Path.{_≡_};
-ghost use mathlib.Core.List.{[]};
 ghost use Prim.Native.Nat.{_+_, _≤_, min};
 ghost use Rattle.laying.specs.Tops.{top};
 use crate::meter::Meter;
@@ -29,7 +28,7 @@ impl Meter {
     }
 
     // One clause more.
-    pub fn add(&mut self, literals: usize)
+    pub(crate) fn add(&mut self, literals: usize)
         ensures clauses { λ _. ⌜ now (self .exit) .clauses ≡ min (now (self .entry) .clauses + 1) top ⌝ }
         ensures literals { λ _. ⌜ now (self .exit) .literals ≡ min (now (self .entry) .literals + literals) top ⌝ }
     {

@@ -32,7 +32,7 @@ impl Literal {
     }
 
     // As clauses have it: the variable, or less than 0 if it is false.
-    pub fn number(self) -> i32
+    pub(crate) fn number(self) -> i32
         ensures value { λ r. ⌜ r ≡ value self ⌝ }
         ensures fine { λ r. ⌜ literal-fine r ≡ true ⌝ }
     {
@@ -72,7 +72,7 @@ impl Line {
         }
     }
 
-    pub fn as_slice(&self) -> &[i32]
+    pub(crate) fn as_slice(&self) -> &[i32]
         ensures value { λ r. ⌜ now r ≡ lits (now (self .entry)) ⌝ }
         ensures few { λ r. ⌜ length (now r) ≤ longest-clause ⌝ }
         ensures fine { λ r. ⌜ all-fine (now r) ≡ true ⌝ }

@@ -2,9 +2,10 @@
 use clause_store::store::Store;
 use clause_store::work::StoreHolder;
 use dimacs::write_page;
-use encoding::numbering::variables;
 use encoding::whole::lay;
 use holder::held::Holder;
+use numbering::depth::Depth;
+use numbering::numbers::variables;
 use problem::drafts::AxiomDraft;
 use problem::drafts::Problem;
 use refusals::limits::MOST_AXIOMS;
@@ -16,7 +17,6 @@ use refusals::refusal::Refusal;
 use std::alloc::Global;
 use std::error::AnyError;
 use std::time::Instant;
-use step_clauses::depth::Depth;
 
 const LOW: [u16; 8] = [1, 2, 3, 4, 5, 6, 7, 8];
 

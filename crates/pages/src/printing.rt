@@ -13,9 +13,10 @@ ghost use Rattle.pages.specs.PageText.{refused-line, refused-at-line, refused-
 use clause_store::store::Store;
 use clause_store::work::StoreHolder;
 use dimacs::write_page;
-use encoding::numbering::variables;
 use encoding::whole::lay;
 use file_reader::read_problem;
+use numbering::depth::Depth;
+use numbering::numbers::variables;
 use problem::drafts::Problem;
 use problem_file::faults::ProblemFault;
 use refusals::limits::DEEPEST;
@@ -25,7 +26,6 @@ use refusals::limits::PROGRAM_LITERALS;
 use refusals::refusal::Refusal;
 use std::alloc::AllocError;
 use std::alloc::Global;
-use step_clauses::depth::Depth;
 
 fn refused_line(heap: Global, n: u8) -> Result<String, AllocError>
     ensures { λ r. ⌜ made r (λ t. string-bytes t ≡ refused-line n) ⌝ }
