@@ -75,7 +75,7 @@ module _ (es : List ℕ) (xs : List ℤ) (order : ordered 0 es (length xs) ≡ t
     pub ends-up : (s ≤ e) × (e ≤ length xs)
     ends-up = let t = end-step 0 i es (length xs) order within in let a = t .0 in let b = t .1 in let f = at-i in (omega arith, omega arith)
 
-    clause-is : getD (cut-up 0 es xs) i [] ≡ take (e - s) (drop s xs)
+    pub clause-is : getD (cut-up 0 es xs) i [] ≡ take (e - s) (drop s xs)
     clause-is = let f = at-i in cut-up-at 0 i es xs within ∙ ap (λ z. take (z - end-of 0 i es) (drop (end-of 0 i es) xs)) (sym f) ∙ ap (λ z. take (e - z) (drop z xs)) (sym start)
 
     pub clause-long : length (getD (cut-up 0 es xs) i []) ≡ e - s

@@ -3,6 +3,7 @@ ghost use mathlib.Core.Path.{_≡_};
 ghost use mathlib.Core.Bool.{true};
 ghost use Prim.Native.Nat.{_≤_};
 ghost use Rattle.std.specs.Of.Vec.{vec-items, vec-len, vec-cap};
+ghost use Rattle.holder.specs.Clauses.{all-fine};
 ghost use Rattle.clause_store.specs.Flat.{ordered};
 use holder::size::Size;
 
@@ -16,4 +17,5 @@ pub struct Store {
     ghost few_clauses: { vec-len ends ≤ most .clauses },
     ghost few_literals: { vec-len literals ≤ most .literals },
     ghost in_order: { ordered 0 (vec-items ends) (vec-len literals) ≡ true },
+    ghost fine: { all-fine (vec-items literals) ≡ true },
 }

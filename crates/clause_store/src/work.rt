@@ -2,8 +2,11 @@
 ghost use mathlib.Core.Path.{_≡_};
 ghost use mathlib.Core.List.{[]};
 ghost use Prim.Native.Nat.{min};
+ghost use lib.ListN.{length, getD};
 ghost use Rattle.std.specs.Vec.{made};
 ghost use Rattle.refusals.specs.Limits.{most-held};
+ghost use Rattle.holder.specs.Clauses as clauses;
+ghost use Rattle.holder.specs.Widest as wide;
 ghost use Rattle.clause_store.specs.Made.{stood-of, no-rest};
 use crate::flat;
 use crate::store::Store;
@@ -30,6 +33,34 @@ impl Store {
             ends,
             most,
         })
+    }
+
+    // How many clauses are held.
+    pub fn count(&self) -> usize
+        ensures { λ r. ⌜ r ≡ length (stood-of (now (self .entry)) .held) ⌝ }
+    {
+        self.ends.len()
+    }
+
+    // How many literals are held in all.
+    pub fn size(&self) -> usize
+        ensures { λ r. ⌜ r ≡ clauses.size (stood-of (now (self .entry)) .held) ⌝ }
+    {
+        self.literals.len()
+    }
+
+    // Clause i, from 0; empty beyond the list.
+    pub fn clause(&self, i: usize) -> &[i32]
+        ensures { λ r. ⌜ now r ≡ getD (stood-of (now (self .entry)) .held) i [] ⌝ }
+    {
+        flat::clause_at(&self.ends, &self.literals, i)
+    }
+
+    // The largest variable held; 0 if no clause is.
+    pub fn widest(&self) -> usize
+        ensures { λ r. ⌜ r ≡ wide.widest (stood-of (now (self .entry)) .held) ⌝ }
+    {
+        flat::widest(&self.literals)
     }
 }
 

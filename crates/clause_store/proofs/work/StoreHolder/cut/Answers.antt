@@ -5,6 +5,8 @@ use native.Mathlib.Omega.{arith}
 use borrow.Author.Needs.{needs}
 use lib.ListN.{length, take}
 use Rattle.std.specs.Of.Vec.{vec-items, vec-len}
+use Rattle.holder.specs.Clauses.{all-fine}
+use Rattle.clause_store.proofs.Named.{fine-take}
 use Rattle.clause_store.specs.Flat.{cut-up, ordered, end-of}
 use Rattle.clause_store.specs.Made.{no-rest}
 use Rattle.clause_store.proofs.Cuts.{ordered-take, cut-up-take, end-within}
@@ -33,7 +35,10 @@ ghost-self c =
           search needs,
           (
             search needs,
-            (ap (λ x. ordered 0 x (vec-len (c .truncate-2 .last .self))) (c .truncate .ensures .items) ∙ ap (ordered 0 (take n es)) m ∙ ordered-take 0 n es (vec-len (s .literals)) l (s .«in_order»), tt),
+            (
+              ap (λ x. ordered 0 x (vec-len (c .truncate-2 .last .self))) (c .truncate .ensures .items) ∙ ap (ordered 0 (take n es)) m ∙ ordered-take 0 n es (vec-len (s .literals)) l (s .«in_order»),
+              (ap all-fine (c .truncate-2 .ensures .items) ∙ fine-take (c .end-of-end .result) (vec-items (s .literals)) (s .fine), tt),
+            ),
           ),
         ),
       ),

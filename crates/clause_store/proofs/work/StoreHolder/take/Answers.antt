@@ -6,6 +6,8 @@ use native.Mathlib.Omega.{arith}
 use borrow.Author.Needs.{needs}
 use lib.ListN.{length}
 use Rattle.std.specs.Of.Vec.{vec-items, vec-len}
+use Rattle.holder.specs.Clauses.{all-fine}
+use Rattle.clause_store.proofs.Named.{fine-push}
 use Rattle.clause_store.specs.Flat.{cut-up, ordered}
 use Rattle.clause_store.specs.Made.{no-rest}
 use Rattle.clause_store.proofs.Cuts.{ordered-push, cut-up-push}
@@ -63,7 +65,10 @@ ghost-self-2 c =
           search needs,
           (
             search needs,
-            (ap (λ x. ordered 0 x long) (c .push-reserved .ensures .items) ∙ ap (λ z. ordered 0 (es ++ z ∷ []) long) (c .len-3 .ensures) ∙ ordered-push 0 es (vec-len (s .literals)) long (s .«in_order») l, tt),
+            (
+              ap (λ x. ordered 0 x long) (c .push-reserved .ensures .items) ∙ ap (λ z. ordered 0 (es ++ z ∷ []) long) (c .len-3 .ensures) ∙ ordered-push 0 es (vec-len (s .literals)) long (s .«in_order») l,
+              (ap all-fine (c .append .ensures .items) ∙ fine-push (vec-items (s .literals)) (c .args .clause .now) (s .fine) (sym (c .if-not-is-proper .ensures tt)), tt),
+            ),
           ),
         ),
       ),

@@ -1,0 +1,4 @@
+pub mod Judging
+pub mod Backs
+pub mod Puts
+pub mod Shows

@@ -1,0 +1,4 @@
+pub mod Judgements
+pub mod Boards
+pub mod Picks
+pub mod Shown

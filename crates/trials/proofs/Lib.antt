@@ -1,0 +1,4 @@
+pub mod Below
+pub mod Confluence
+pub mod Unique
+pub mod Models

@@ -1,0 +1,5 @@
+pub mod Values
+pub mod Forcing
+pub mod Courses
+pub mod Exist
+pub mod Trials
