@@ -1,4 +1,6 @@
 // The plain holder: clauses one after another, in memory that is reserved when it is made.
+#![tactic(auto)]
+
 pub mod flat;
 pub mod store;
 pub mod work;

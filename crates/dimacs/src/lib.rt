@@ -1,4 +1,6 @@
 // The clauses of a holder as DIMACS text.
+#![tactic(auto)]
+
 mod numbers;
 pub mod writing;
 

@@ -1,4 +1,6 @@
 // Reads a whole problem file.
+#![tactic(auto)]
+
 ghost use Rattle.std.specs.Prelude.{◌≡◌, drop};
 ghost use Rattle.problem.specs.Tables.{axioms_drafted, rules_drafted, goals_drafted};
 ghost use Rattle.file_format.specs.Reading.{read, all_fields};

@@ -1,4 +1,6 @@
 // What holds a list of clauses within caps.
+#![tactic(auto)]
+
 pub mod held;
 pub mod size;
 

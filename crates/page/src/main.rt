@@ -1,4 +1,6 @@
 // Prints the clause list of a problem at a depth as a DIMACS page: a depth byte and a file come by standard input.
+#![tactic(auto)]
+
 use anyhow::anyhow;
 use pages::printing::page_text;
 use refusals::limits::MOST_FILE_BYTES;

@@ -1,4 +1,6 @@
 // Lays and writes the pages of the largest problem that files allow. What they measure goes to standard output, and how long it took to standard error.
+#![tactic(auto)]
+
 use anyhow::anyhow;
 use clause_store::store::Store;
 use dimacs::write_page;

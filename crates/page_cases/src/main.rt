@@ -1,4 +1,6 @@
 // Prints, for each line of standard input, a case's name and what the page program prints for its bytes.
+#![tactic(auto)]
+
 use anyhow::anyhow;
 use pages::printing::page_text;
 use std::alloc::Global;

@@ -1,2 +1,4 @@
 // The text that the page program prints.
+#![tactic(auto)]
+
 pub mod printing;

@@ -1,4 +1,6 @@
 // A problem: facts, a start list, axioms, rules and goals, built by drafts that are moved on.
+#![tactic(auto)]
+
 pub mod drafting;
 pub mod drafts;
 pub mod judging;

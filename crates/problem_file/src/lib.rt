@@ -1,4 +1,6 @@
 // Reads problem files: fields, records and whole problems.
+#![tactic(auto)]
+
 pub mod faults;
 pub mod field;
 pub mod opening;

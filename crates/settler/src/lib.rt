@@ -1,4 +1,6 @@
 // What settles whether the clauses that it holds have a model.
+#![tactic(auto)]
+
 pub mod settling;
 pub mod verdict;
 

@@ -1,3 +1,5 @@
 // The theory of the search: assignments, forcing, courses and their trials.
+#![tactic(auto)]
+
 pub mod theorems;
 pub mod value;
