@@ -7,19 +7,19 @@ use Rattle.problem_file.specs.Records.{HoldsAxiom, Takes}
 use Rattle.file_reader.proofs.Steps.{fault_told, record_told}
 use Rattle.file_reader.proofs.read_axioms.Goals as goal
 
-pub returns-in-err-next-axiom : goal.returns-in-err-next-axiom
-returns-in-err-next-axiom c =
+pub returns-in_err-next_axiom : goal.returns-in_err-next_axiom
+returns-in_err-next_axiom c =
     let p = err_from_is_err_and c.from-residual.result c.from-residual.ensures.1 in
     let at = c.loop.place.at in
-    rw (p.1, p.2) (fault_told 3 (axioms_drafted c.loop.draft) at (drop at c.args.file.now) _ _ c.loop.invariant c.in-err-next-axiom.ensures.0)
+    rw (p.1, p.2) (fault_told 3 (axioms_drafted c.loop.draft) at (drop at c.args.file.now) _ _ c.loop.invariant c.in_err-next_axiom.ensures.0)
 
 pub loop-preserved-in-Some : goal.loop-preserved-in-Some
 loop-preserved-in-Some c =
     let file = c.args.file.now in
     let at = c.loop.place.at in
     let p = axioms_drafted c.loop.draft in
-    let q = axioms_drafted c.next-axiom.new.draft in
-    let s = c.in-ok-next-axiom.ensures in
-    let place = c.next-axiom.new.place.at in
+    let q = axioms_drafted c.next_axiom.new.draft in
+    let s = c.in_ok-next_axiom.ensures in
+    let place = c.next_axiom.new.place.at in
     let took = subst (λ o. Takes HoldsAxiom file at (next_record 3 p (next_field 3 5 (drop at file))) p (Ok o) q place) c.in-Some.is s in
     record_told 3 p q at file took.0 place _ c.loop.invariant took.1 took.2.ends

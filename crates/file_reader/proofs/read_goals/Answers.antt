@@ -7,19 +7,19 @@ use Rattle.problem_file.specs.Records.{HoldsGoal, Takes}
 use Rattle.file_reader.proofs.Steps.{fault_told, record_told}
 use Rattle.file_reader.proofs.read_goals.Goals as goal
 
-pub returns-in-err-next-goal : goal.returns-in-err-next-goal
-returns-in-err-next-goal c =
+pub returns-in_err-next_goal : goal.returns-in_err-next_goal
+returns-in_err-next_goal c =
     let p = err_from_is_err_and c.from-residual.result c.from-residual.ensures.1 in
     let at = c.loop.place.at in
-    rw (p.1, p.2) (fault_told 5 (goals_drafted c.loop.draft) at (drop at c.args.file.now) _ _ c.loop.invariant c.in-err-next-goal.ensures.0)
+    rw (p.1, p.2) (fault_told 5 (goals_drafted c.loop.draft) at (drop at c.args.file.now) _ _ c.loop.invariant c.in_err-next_goal.ensures.0)
 
 pub loop-preserved-in-Some : goal.loop-preserved-in-Some
 loop-preserved-in-Some c =
     let file = c.args.file.now in
     let at = c.loop.place.at in
     let p = goals_drafted c.loop.draft in
-    let q = goals_drafted c.next-goal.new.draft in
-    let s = c.in-ok-next-goal.ensures in
-    let place = c.next-goal.new.place.at in
+    let q = goals_drafted c.next_goal.new.draft in
+    let s = c.in_ok-next_goal.ensures in
+    let place = c.next_goal.new.place.at in
     let took = subst (λ o. Takes HoldsGoal file at (next_record 5 p (next_field 5 5 (drop at file))) p (Ok o) q place) c.in-Some.is s in
     record_told 5 p q at file took.0 place _ c.loop.invariant took.1 took.2.ends

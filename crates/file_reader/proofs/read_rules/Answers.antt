@@ -7,19 +7,19 @@ use Rattle.problem_file.specs.Records.{HoldsRule, Takes}
 use Rattle.file_reader.proofs.Steps.{fault_told, record_told}
 use Rattle.file_reader.proofs.read_rules.Goals as goal
 
-pub returns-in-err-next-rule : goal.returns-in-err-next-rule
-returns-in-err-next-rule c =
+pub returns-in_err-next_rule : goal.returns-in_err-next_rule
+returns-in_err-next_rule c =
     let p = err_from_is_err_and c.from-residual.result c.from-residual.ensures.1 in
     let at = c.loop.place.at in
-    rw (p.1, p.2) (fault_told 4 (rules_drafted c.loop.draft) at (drop at c.args.file.now) _ _ c.loop.invariant c.in-err-next-rule.ensures.0)
+    rw (p.1, p.2) (fault_told 4 (rules_drafted c.loop.draft) at (drop at c.args.file.now) _ _ c.loop.invariant c.in_err-next_rule.ensures.0)
 
 pub loop-preserved-in-Some : goal.loop-preserved-in-Some
 loop-preserved-in-Some c =
     let file = c.args.file.now in
     let at = c.loop.place.at in
     let p = rules_drafted c.loop.draft in
-    let q = rules_drafted c.next-rule.new.draft in
-    let s = c.in-ok-next-rule.ensures in
-    let place = c.next-rule.new.place.at in
+    let q = rules_drafted c.next_rule.new.draft in
+    let s = c.in_ok-next_rule.ensures in
+    let place = c.next_rule.new.place.at in
     let took = subst (λ o. Takes HoldsRule file at (next_record 4 p (next_field 4 5 (drop at file))) p (Ok o) q place) c.in-Some.is s in
     record_told 4 p q at file took.0 place _ c.loop.invariant took.1 took.2.ends

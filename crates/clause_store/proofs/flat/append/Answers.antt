@@ -10,7 +10,7 @@ loop-l-preserved c =
     let x = get_or k i (pos 0) in
     let f : SFits w32 x = search rules in
     let old = vec_items c.args.literals.now in (
-      c.push-reserved.ensures.items ∙ ap (λ z. vec_items c.loop-l.literals ++ z ∷ []) (to_z-of_z w32 x f) ∙ ap (λ z. z ++ x ∷ []) c.loop-l.invariant.0 ∙ append_assoc old (take i k) (x ∷ []) ∙ ap (λ z. old ++ z) (sym (take_more k i (pos 0) c.loop-l-test.true)),
+      c.push_reserved.ensures.items ∙ ap (λ z. vec_items c.loop-l.literals ++ z ∷ []) (to_z-of_z w32 x f) ∙ ap (λ z. z ++ x ∷ []) c.loop-l.invariant.0 ∙ append_assoc old (take i k) (x ∷ []) ∙ ap (λ z. old ++ z) (sym (take_more k i (pos 0) c.loop-l-test.true)),
       search rules,
       search rules,
     )

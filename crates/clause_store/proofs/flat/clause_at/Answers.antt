@@ -12,41 +12,41 @@ returns-then-i-ends c =
     let e = length-cut_up 0 es xs in
     sym (get_or_past (cut_up 0 es xs) c.args.i [] (omega arith))
 
-pub offset-bounds-literals-start : goal.offset-bounds-literals-start
-offset-bounds-literals-start c =
+pub offset_bounds-literals-start : goal.offset_bounds-literals-start
+offset_bounds-literals-start c =
     let es = c.args.ends.now in
     let i = c.args.i in
     let l : i < length es = omega arith in
     let e = get_or es i 0 in
     let r : e ≡ get_or es i e = get_or_default es i 0 e l in
-    let t = ends_up es c.args.literals.now c.requires i c.end-of-start.result e l c.end-of-start.ensures r in search rules
+    let t = ends_up es c.args.literals.now c.requires i c.end_of-start.result e l c.end_of-start.ensures r in search rules
 
-pub slice-bounds-result-count : goal.slice-bounds-result-count
-slice-bounds-result-count c =
+pub slice_bounds-result-count : goal.slice_bounds-result-count
+slice_bounds-result-count c =
     let es = c.args.ends.now in
     let i = c.args.i in
     let l : i < length es = omega arith in
     let e = get_or es i 0 in
     let r : e ≡ get_or es i e = get_or_default es i 0 e l in
-    (ends_up es c.args.literals.now c.requires i c.end-of-start.result e l c.end-of-start.ensures r).0
+    (ends_up es c.args.literals.now c.requires i c.end_of-start.result e l c.end_of-start.ensures r).0
 
-pub slice-bounds-result-start : goal.slice-bounds-result-start
-slice-bounds-result-start c =
+pub slice_bounds-result-start : goal.slice_bounds-result-start
+slice_bounds-result-start c =
     let es = c.args.ends.now in
     let i = c.args.i in
     let l : i < length es = omega arith in
     let e = get_or es i 0 in
     let r : e ≡ get_or es i e = get_or_default es i 0 e l in
-    let t = ends_up es c.args.literals.now c.requires i c.end-of-start.result e l c.end-of-start.ensures r in search rules
+    let t = ends_up es c.args.literals.now c.requires i c.end_of-start.result e l c.end_of-start.ensures r in search rules
 
-pub slice-bounds-result-end-2 : goal.slice-bounds-result-end-2
-slice-bounds-result-end-2 c =
+pub slice_bounds-result-end-2 : goal.slice_bounds-result-end-2
+slice_bounds-result-end-2 c =
     let es = c.args.ends.now in
     let i = c.args.i in
     let l : i < length es = omega arith in
     let e = get_or es i 0 in
     let r : e ≡ get_or es i e = get_or_default es i 0 e l in
-    let t = ends_up es c.args.literals.now c.requires i c.end-of-start.result e l c.end-of-start.ensures r in search rules
+    let t = ends_up es c.args.literals.now c.requires i c.end_of-start.result e l c.end_of-start.ensures r in search rules
 
 pub returns : goal.returns
 returns c =
@@ -55,4 +55,4 @@ returns c =
     let l : i < length es = omega arith in
     let e = get_or es i 0 in
     let r : e ≡ get_or es i e = get_or_default es i 0 e l in
-    sym (clause_is es c.args.literals.now c.requires i c.end-of-start.result e l c.end-of-start.ensures r)
+    sym (clause_is es c.args.literals.now c.requires i c.end_of-start.result e l c.end_of-start.ensures r)

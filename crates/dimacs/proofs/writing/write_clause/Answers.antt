@@ -12,8 +12,8 @@ loop-j-preserved g c o =
     let out = string_bytes c.loop-j.out in
     let at = c.in-Ok.ensures o in
     let f : SFits w32 c.in-Ok.l = search rules in
-    one_more clause_text k c.loop-j.j out (c.loop-j.invariant o) literal_text clause_step (string_bytes c.write-literal.new.out) (pos 0) at.1
-    (c.in-ok-write-literal.ensures ∙ ap (λ l. out ++ literal_text l) (to_z-of_z w32 c.in-Ok.l f ∙ at.2 (pos 0)))
+    one_more clause_text k c.loop-j.j out (c.loop-j.invariant o) literal_text clause_step (string_bytes c.write_literal.new.out) (pos 0) at.1
+    (c.in_ok-write_literal.ensures ∙ ap (λ l. out ++ literal_text l) (to_z-of_z w32 c.in-Ok.l f ∙ at.2 (pos 0)))
 
 pub returns : goal.returns
 returns g c o =
@@ -25,6 +25,6 @@ returns g c o =
     let past : length k ≤ c.loop-j.j =
     elim c.loop-j-test.branch [
       | else-loop-j-test w ↦ omega arith
-      | then-loop-j-test+in-default w ↦ (w.in-default.ensures o).1 pre.0
+      | then-loop-j-test+in-default w ↦ (w.in_default.ensures o).1 pre.0
     ] in
-    once_pushed c.push-str.result _ out (codes "0\n") c.push-str.ensures.bytes (all_written clause_text k c.loop-j.j out (c.loop-j.invariant o) past)
+    once_pushed c.push_str.result _ out (codes "0\n") c.push_str.ensures.bytes (all_written clause_text k c.loop-j.j out (c.loop-j.invariant o) past)

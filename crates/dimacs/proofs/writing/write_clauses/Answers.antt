@@ -9,7 +9,7 @@ loop-i-preserved g c o =
     let held = (g.H.Holder.stood c.args.holder.now).held in
     let pre = c.requires o in
     let l : c.loop-i.i < length held = omega arith in
-    one_more (joined clause_text) held c.loop-i.i (string_bytes c.loop-i.out) (c.loop-i.invariant o) clause_text clauses_step (string_bytes c.write-clause.new.out) [] l (c.in-ok-write-clause.ensures o)
+    one_more (joined clause_text) held c.loop-i.i (string_bytes c.loop-i.out) (c.loop-i.invariant o) clause_text clauses_step (string_bytes c.write_clause.new.out) [] l (c.in_ok-write_clause.ensures o)
 
 pub returns : goal.returns
 returns g c o =

@@ -9,5 +9,5 @@ loop-i-preserved c =
     let a = c.args.values.now in
     let x = get_or c.args.clause.now c.loop-i.i (pos 0) in
     let f : SFits w32 x = search rules in
-    let e : is_false (value a x) ≡ true = subst (λ (z : ℤ). is_false (value a z) ≡ true) (to_z-of_z w32 x f) (sym c.if-not-is-false.ensures) in
+    let e : is_false (value a x) ≡ true = subst (λ (z : ℤ). is_false (value a z) ≡ true) (to_z-of_z w32 x f) (sym c.if-not-is_false.ensures) in
     c.loop-i.invariant ∙ live_false a c.args.clause.now c.loop-i.i (omega arith) e

@@ -9,4 +9,4 @@ pub returns-in-Err : goal.returns-in-Err
 returns-in-Err c =
     let e = c.in-Err.fault in
     let is = subst (λ bs. FaultIs (read bs) e) c.counted.ensures c.in-Err.ensures in
-    fault_text string_bytes c.args.depth.value (read (take most_file_bytes c.args.file.now)) e c.refused-at.result is c.refused-at.ensures
+    fault_text string_bytes c.args.depth.value (read (take most_file_bytes c.args.file.now)) e c.refused_at.result is c.refused_at.ensures

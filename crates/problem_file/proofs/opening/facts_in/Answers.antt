@@ -11,4 +11,4 @@ one_byte (n ∷ []) h f = (refl, cond-true (fact_of most_facts n) _ _ f)
 one_byte (n ∷ m ∷ v) h f = absurd (omega (arith, h))
 
 pub returns : goal.returns
-returns c = one_byte c.args.value.now c.if-value-ne1.false (sym c.if-not-is-fact.ensures)
+returns c = one_byte c.args.value.now c.if-value-ne1.false (sym c.if-not-is_fact.ensures)

@@ -7,7 +7,7 @@ pub loop-b-preserved : goal.loop-b-preserved
 loop-b-preserved c =
     let i = c.loop-b.b-index in
     let bytes = c.args.bytes.now in
-    c.push.ensures.items ∙ cond-true _ _ _ c.if-is-err.ensures.negation ∙ ap (λ l. l ++ get_or bytes i 0 ∷ []) c.loop-b.invariant ∙ sym (take_more bytes i 0 c.loop-b-test.true)
+    c.push.ensures.items ∙ cond-true _ _ _ c.if-is_err.ensures.negation ∙ ap (λ l. l ++ get_or bytes i 0 ∷ []) c.loop-b.invariant ∙ sym (take_more bytes i 0 c.loop-b-test.true)
 
 pub returns : goal.returns
 returns c = c.loop-b.invariant ∙ take_all c.loop-b.b-index c.args.bytes.now c.loop-b-test.false

@@ -2,8 +2,8 @@ use Rattle.std.proofs.Common.{◌≡◌, true, length, vec_items, vec_len, sym, 
 use Rattle.clause_store.specs.Flat.{cut_up, ordered}
 use Rattle.clause_store.proofs.store.Store.clause.Goals as goal
 
-pub clause-at-requires : goal.clause-at-requires
-clause-at-requires c =
+pub clause_at-requires : goal.clause_at-requires
+clause_at-requires c =
     let s = c.args.self.now in
     let es = vec_items s.ends in
     let xs = vec_items s.literals in
@@ -11,4 +11,4 @@ clause-at-requires c =
     simp (c.deref.ensures.value, c.deref-2.ensures.value) o
 
 pub returns : goal.returns
-returns c = c.clause-at.ensures ∙ simp (c.deref.ensures.value, c.deref-2.ensures.value)
+returns c = c.clause_at.ensures ∙ simp (c.deref.ensures.value, c.deref-2.ensures.value)

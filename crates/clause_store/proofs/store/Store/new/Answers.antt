@@ -4,10 +4,10 @@ use Rattle.clause_store.specs.Flat.{cut_up, ordered}
 use Rattle.clause_store.specs.Cuts.{ordered_start, cut_up_none}
 use Rattle.clause_store.proofs.store.Store.new.Goals as goal
 
-pub invariant-of-result : goal.invariant-of-result
-invariant-of-result c =
-    let e = c.in-ok-ends.ensures in
-    let l = c.in-ok-kept.ensures in (
+pub invariant_of-result : goal.invariant_of-result
+invariant_of-result c =
+    let e = c.in_ok-ends.ensures in
+    let l = c.in_ok-kept.ensures in (
       e.capacity,
       (
         l.capacity,
@@ -15,7 +15,7 @@ invariant-of-result c =
           omega (arith, e.len),
           (
             omega (arith, l.len),
-            (ap (λ x. ordered 0 x (vec_len c.in-ok-kept.kept)) e.items ∙ ap (ordered 0 []) l.len ∙ ordered_start, (ap all_fine l.items, tt)),
+            (ap (λ x. ordered 0 x (vec_len c.in_ok-kept.kept)) e.items ∙ ap (ordered 0 []) l.len ∙ ordered_start, (ap all_fine l.items, tt)),
           ),
         ),
       ),
@@ -23,7 +23,7 @@ invariant-of-result c =
 
 pub returns : goal.returns
 returns c =
-    let e = c.in-ok-ends.ensures in
-    let xs = vec_items c.in-ok-kept.kept in
+    let e = c.in_ok-ends.ensures in
+    let xs = vec_items c.in_ok-kept.kept in
     let h = ap (λ x. cut_up 0 x xs) e.items ∙ cut_up_none xs in
     cc

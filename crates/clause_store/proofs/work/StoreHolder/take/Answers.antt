@@ -11,7 +11,7 @@ pub returns-then-len-self : goal.returns-then-len-self
 returns-then-len-self c _ =
     let s = c.args.self.now in
     let l : s.most.clauses ≤ length (vec_items s.ends) = omega (arith, s.ends.ok.0, c.len.ensures) in
-    (tt, record { value = take_full (vec_items s.ends) (vec_items s.literals) s.most no_rest c.args.clause.now (sym c.if-not-is-proper.ensures) l; after = refl })
+    (tt, record { value = take_full (vec_items s.ends) (vec_items s.literals) s.most no_rest c.args.clause.now (sym c.if-not-is_proper.ensures) l; after = refl })
 
 pub returns : goal.returns
 returns c _ =
@@ -28,8 +28,8 @@ returns c _ =
     let q : vec_len c.append.new.literals ≡ length xs + length k = omega (arith, c.append.ensures.len) in (
       tt,
       record {
-        value = take_fine es xs s.most no_rest order k (sym c.if-not-is-proper.ensures) (omega arith) (omega arith);
-        after = ap (λ h. record { held = h; limits = s.most; rest = no_rest }) (ap (λ x. cut_up 0 x (vec_items c.append.new.literals)) c.push-reserved.ensures.items ∙ ap (cut_up 0 (es ++ c.len-3.result ∷ [])) c.append.ensures.items ∙ cut_up-push 0 es xs k c.len-3.result order (c.len-3.ensures ∙ q));
+        value = take_fine es xs s.most no_rest order k (sym c.if-not-is_proper.ensures) (omega arith) (omega arith);
+        after = ap (λ h. record { held = h; limits = s.most; rest = no_rest }) (ap (λ x. cut_up 0 x (vec_items c.append.new.literals)) c.push_reserved.ensures.items ∙ ap (cut_up 0 (es ++ c.len-3.result ∷ [])) c.append.ensures.items ∙ cut_up-push 0 es xs k c.len-3.result order (c.len-3.ensures ∙ q));
       },
     )
 
@@ -43,10 +43,10 @@ returns-then-clause-self c _ =
     let p = s.literals.ok.0 in
     let few = s.few_literals in
     let m = c.len-2.ensures in
-    (tt, record { value = take_long es xs s.most no_rest order k (sym c.if-not-is-proper.ensures) (omega arith); after = refl })
+    (tt, record { value = take_long es xs s.most no_rest order k (sym c.if-not-is_proper.ensures) (omega arith); after = refl })
 
-pub invariant-of-self-2 : goal.invariant-of-self-2
-invariant-of-self-2 c =
+pub invariant_of-self-2 : goal.invariant_of-self-2
+invariant_of-self-2 c =
     let s = c.args.self.now in
     let es = vec_items s.ends in
     let long = vec_len c.append.new.literals in
@@ -59,15 +59,15 @@ invariant-of-self-2 c =
           (
             search rules,
             (
-              ap (λ x. ordered 0 x long) c.push-reserved.ensures.items ∙ ap (λ z. ordered 0 (es ++ z ∷ []) long) c.len-3.ensures ∙ ordered_push 0 es (vec_len s.literals) long s.in_order l,
-              (ap all_fine c.append.ensures.items ∙ fine_push (vec_items s.literals) c.args.clause.now s.fine (sym c.if-not-is-proper.ensures), tt),
+              ap (λ x. ordered 0 x long) c.push_reserved.ensures.items ∙ ap (λ z. ordered 0 (es ++ z ∷ []) long) c.len-3.ensures ∙ ordered_push 0 es (vec_len s.literals) long s.in_order l,
+              (ap all_fine c.append.ensures.items ∙ fine_push (vec_items s.literals) c.args.clause.now s.fine (sym c.if-not-is_proper.ensures), tt),
             ),
           ),
         ),
       ),
     )
 
-pub returns-then-not-is-proper : goal.returns-then-not-is-proper
-returns-then-not-is-proper c _ =
+pub returns-then-not-is_proper : goal.returns-then-not-is_proper
+returns-then-not-is_proper c _ =
     let s = c.args.self.now in
-    (tt, record { value = take_wrong (vec_items s.ends) (vec_items s.literals) s.most no_rest c.args.clause.now (sym c.if-not-is-proper.ensures); after = refl })
+    (tt, record { value = take_wrong (vec_items s.ends) (vec_items s.literals) s.most no_rest c.args.clause.now (sym c.if-not-is_proper.ensures); after = refl })

@@ -3,8 +3,8 @@ use Rattle.trials.specs.Values.{opens}
 use Rattle.forcing.proofs.Backs.{opens_all}
 use Rattle.forcing.proofs.board.Board.clear.Goals as goal
 
-pub invariant-of-self : goal.invariant-of-self
-invariant-of-self c =
+pub invariant_of-self : goal.invariant_of-self
+invariant_of-self c =
     let e = ap opens c.fill.ensures.items in
     let f = opens_all (c.min.result + 1) in
     (search rules, (search rules, (omega (arith, c.clear.ensures.len, c.min.ensures), tt)))

@@ -3,8 +3,8 @@ use Rattle.trials.specs.Values.{opens}
 use Rattle.forcing.proofs.Backs.{opens_none}
 use Rattle.forcing.proofs.board.Board.new.Goals as goal
 
-pub invariant-of-result : goal.invariant-of-result
-invariant-of-result c =
-    let v = c.in-ok-values.ensures in
-    let t = c.in-ok-trail.ensures in
+pub invariant_of-result : goal.invariant_of-result
+invariant_of-result c =
+    let v = c.in_ok-values.ensures in
+    let t = c.in_ok-trail.ensures in
     (v.capacity, (t.capacity, (omega (arith, opens_none, ap opens v.items, t.len), tt)))

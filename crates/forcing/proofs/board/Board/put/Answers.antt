@@ -5,8 +5,8 @@ use Rattle.forcing.specs.Boards.{settable}
 use Rattle.forcing.proofs.Puts.{settable_parts}
 use Rattle.forcing.proofs.board.Board.put.Goals as goal
 
-pub push-reserved-requires : goal.push-reserved-requires
-push-reserved-requires c =
+pub push_reserved-requires : goal.push_reserved-requires
+push_reserved-requires c =
     let s = c.args.self.now in
     let a = vec_items s.values in
     let e : settable a c.args.v c.args.value ≡ true = ap (λ z. settable z c.args.v c.args.value) (sym c.deref.ensures.value) ∙ sym c.if-settable.ensures in
@@ -14,11 +14,11 @@ push-reserved-requires c =
     let o = opens_set a c.args.v c.args.value t.0 t.1 t.2 in
     omega (arith, s.few, s.trail_room)
 
-pub invariant-of-self : goal.invariant-of-self
-invariant-of-self c =
+pub invariant_of-self : goal.invariant_of-self
+invariant_of-self c =
     let s = c.args.self.now in
     let a = vec_items s.values in
     let e : settable a c.args.v c.args.value ≡ true = ap (λ z. settable z c.args.v c.args.value) (sym c.deref.ensures.value) ∙ sym c.if-settable.ensures in
     let t = settable_parts a c.args.v c.args.value e in
     let o = opens_set a c.args.v c.args.value t.0 t.1 t.2 in
-    (search rules, (search rules, (omega (arith, s.few, c.push-reserved.ensures.len), tt)))
+    (search rules, (search rules, (omega (arith, s.few, c.push_reserved.ensures.len), tt)))

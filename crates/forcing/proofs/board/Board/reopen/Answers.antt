@@ -5,8 +5,8 @@ use Rattle.trials.specs.Values.{opens}
 use Rattle.forcing.proofs.Backs.{opens_reset}
 use Rattle.forcing.proofs.board.Board.reopen.Goals as goal
 
-pub invariant-of-self : goal.invariant-of-self
-invariant-of-self c =
+pub invariant_of-self : goal.invariant_of-self
+invariant_of-self c =
     let s = c.args.self.now in
     let o = opens_reset (vec_items s.values) c.index-v.result.now in
     let f = s.few in

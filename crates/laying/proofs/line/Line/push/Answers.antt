@@ -7,22 +7,22 @@ use Rattle.laying.specs.Written.{lits, value}
 use Rattle.laying.proofs.Pushed.{fine_push, written}
 use Rattle.laying.proofs.line.Line.push.Goals as goal
 
-pub invariant-of-self : goal.invariant-of-self
-invariant-of-self c =
+pub invariant_of-self : goal.invariant_of-self
+invariant_of-self c =
     let s = c.args.self.now in
     let long : length s.places ≡ longest_clause = search rules in
-    let room = c.if-self-lt-LONGEST-CLAUSE.true in
+    let room = c.if-self-lt-LONGEST_CLAUSE.true in
     let n = c.number.result in
     let h : s.used < length s.places = omega arith in
     let f : SFits w32 n = search rules in
     let e = written s.places s.used n (to_z w32 (of_z w32 n)) h (to_z-of_z w32 n f) in
     (omega arith, (subst (λ y. all_fine y ≡ true) (sym e) (fine_push (take s.used s.places) n s.fine c.number.ensures.fine), tt))
 
-pub returns-then-self-lt-LONGEST-CLAUSE : goal.returns-then-self-lt-LONGEST-CLAUSE
-returns-then-self-lt-LONGEST-CLAUSE c =
+pub returns-then-self-lt-LONGEST_CLAUSE : goal.returns-then-self-lt-LONGEST_CLAUSE
+returns-then-self-lt-LONGEST_CLAUSE c =
     let s = c.args.self.now in
     let long : length s.places ≡ longest_clause = search rules in
-    let room = c.if-self-lt-LONGEST-CLAUSE.true in
+    let room = c.if-self-lt-LONGEST_CLAUSE.true in
     let n = c.number.result in
     let l = value c.args.l in
     let h : s.used < length s.places = omega arith in
@@ -32,11 +32,11 @@ returns-then-self-lt-LONGEST-CLAUSE c =
     let few : length (lits s ++ l ∷ []) ≤ longest_clause = omega arith in
     written s.places s.used l (to_z w32 (of_z w32 n)) h (to_z-of_z w32 n f ∙ c.number.ensures.value) ∙ sym (take_all longest_clause (lits s ++ l ∷ []) few)
 
-pub returns-else-self-lt-LONGEST-CLAUSE : goal.returns-else-self-lt-LONGEST-CLAUSE
-returns-else-self-lt-LONGEST-CLAUSE c =
+pub returns-else-self-lt-LONGEST_CLAUSE : goal.returns-else-self-lt-LONGEST_CLAUSE
+returns-else-self-lt-LONGEST_CLAUSE c =
     let s = c.args.self.now in
     let long : length s.places ≡ longest_clause = search rules in
-    let full = c.if-self-lt-LONGEST-CLAUSE.false in
+    let full = c.if-self-lt-LONGEST_CLAUSE.false in
     let k = length-take-le s.used s.places (omega (arith, s.room)) in
     let fits : length (lits s) ≤ longest_clause = omega (arith, s.room) in
     let over : longest_clause ≤ length (lits s) = omega arith in

@@ -8,11 +8,11 @@ use Rattle.problem.specs.Tables.{axioms_drafted}
 use Rattle.problem.proofs.Rows.{says_put, every_put, axiom_tests, first_fine, unless_fine}
 use Rattle.problem.proofs.drafts.AxiomDraft.axiom.Goals as goal
 
-pub invariant-of-self : goal.invariant-of-self
-invariant-of-self c =
+pub invariant_of-self : goal.invariant_of-self
+invariant_of-self c =
     let d = c.args.self.now in
     let a : runs.Axiom = record { premises = c.args.premises.now; conclusion = c.args.conclusion } in
-    let none : axiom_shape (axioms_drafted d) a ≡ None = cc c.in-default.ensures in
+    let none : axiom_shape (axioms_drafted d) a ≡ None = cc c.in_default.ensures in
     let fine = axiom_tests (axioms_drafted d) a none in
     let count = length-map (vec_items d.axioms) axiom_view in
     let inside = subst (λ ps. axiom_in d.facts (record { premises = ps; conclusion = c.args.conclusion }) ≡ true) (sym c.in-Ok.ensures) fine.0 in
@@ -22,8 +22,8 @@ pub returns-in-Ok : goal.returns-in-Ok
 returns-in-Ok c =
     let d = c.args.self.now in
     let a : runs.Axiom = record { premises = c.args.premises.now; conclusion = c.args.conclusion } in
-    let none : axiom_shape (axioms_drafted d) a ≡ None = cc c.in-default.ensures in
-    let above : below a.conclusion a.premises ≡ true = cc c.if-not-all-below.ensures in
+    let none : axiom_shape (axioms_drafted d) a ≡ None = cc c.in_default.ensures in
+    let above : below a.conclusion a.premises ≡ true = cc c.if-not-all_below.ensures in
     says_put axiom_view c.put.ensures.put (λ rows. record { facts = d.facts; start = vec_items d.start.items; axioms = rows; rules = []; goals = [] }) a (axiom_fault (axioms_drafted d) a)
     (ap (λ ps. record { premises = ps; conclusion = c.args.conclusion }) c.in-Ok.ensures)
     (first_fine _ _ none (unless_fine _ _ above))

@@ -9,17 +9,17 @@ use Rattle.problem.specs.Tables.{rules_drafted}
 use Rattle.problem.proofs.Rows.{says_put, every_put, rule_tests, first_fine, rule_lawful}
 use Rattle.problem.proofs.drafts.RuleDraft.rule.Goals as goal
 
-pub invariant-of-self : goal.invariant-of-self
-invariant-of-self c =
+pub invariant_of-self : goal.invariant_of-self
+invariant_of-self c =
     let d = c.args.self.now in
     let n = d.ground.facts in
     let axs = map axiom_view (vec_items d.ground.axioms) in
     let x : runs.Rule = record { needed = c.args.needed.now; forbidden = c.args.forbidden.now; left = c.args.left.now } in
-    let none : rule_shape (rules_drafted d) x ≡ None = cc c.in-default.ensures in
+    let none : rule_shape (rules_drafted d) x ≡ None = cc c.in_default.ensures in
     let fine = rule_tests (rules_drafted d) x none in
     let count = length-map (vec_items d.rules) rule_view in
-    let taken : any (takes_from x) axs ≡ false = cc c.if-takes-from-any.ensures in
-    let barred : any (bars x) axs ≡ false = cc c.if-bars-any.ensures in
+    let taken : any (takes_from x) axs ≡ false = cc c.if-takes_from_any.ensures in
+    let barred : any (bars x) axs ≡ false = cc c.if-bars_any.ensures in
     let is = c.in-Ok.ensures in
     let inside = subst (λ y. rule_in n y ≡ true) (sym is) fine.0 in
     let spares = subst (λ y. spares_all axs y ≡ true) (sym is) (and_from _ _ (not_from_false _ taken) (not_from_false _ barred)) in
@@ -30,9 +30,9 @@ returns-in-Ok c =
     let d = c.args.self.now in
     let axs = map axiom_view (vec_items d.ground.axioms) in
     let x : runs.Rule = record { needed = c.args.needed.now; forbidden = c.args.forbidden.now; left = c.args.left.now } in
-    let none : rule_shape (rules_drafted d) x ≡ None = cc c.in-default.ensures in
-    let taken : any (takes_from x) axs ≡ false = cc c.if-takes-from-any.ensures in
-    let barred : any (bars x) axs ≡ false = cc c.if-bars-any.ensures in
+    let none : rule_shape (rules_drafted d) x ≡ None = cc c.in_default.ensures in
+    let taken : any (takes_from x) axs ≡ false = cc c.if-takes_from_any.ensures in
+    let barred : any (bars x) axs ≡ false = cc c.if-bars_any.ensures in
     says_put rule_view c.put.ensures.put (λ rows. record { facts = d.ground.facts; start = vec_items d.ground.start.items; axioms = axs; rules = rows; goals = [] }) x (rule_fault (rules_drafted d) x)
     c.in-Ok.ensures
     (first_fine _ _ none (rule_lawful (rules_drafted d) x taken barred))

@@ -23,7 +23,7 @@ returns-in-True c =
     let head : c.index.result.now ≡ get_or (vec_items s.positive) (variable l) 0 = get_or_read (vec_items s.positive) c.variable-v.result c.index.result.now w c.index.ensures 0 ∙ ap (λ z. get_or (vec_items s.positive) z 0) v in
     let first : set (vec_items s.positive) c.variable-v.result (c.len-entry.result + 1) ≡ set (vec_items s.positive) (variable l) (length (vec_items s.next) + 1) = ap (λ z. set (vec_items s.positive) z (c.len-entry.result + 1)) v ∙ ap (set (vec_items s.positive) (variable l)) n in
     record {
-      value = chains_eq _ _ _ _ _ _ _ _ first refl (c.push-reserved-in-True.ensures.items ∙ ap (λ z. vec_items s.next ++ z ∷ []) head) c.push-reserved.ensures.items ∙ sym (added_true (chains s) l c.args.clause e);
+      value = chains_eq _ _ _ _ _ _ _ _ first refl (c.push_reserved-in-True.ensures.items ∙ ap (λ z. vec_items s.next ++ z ∷ []) head) c.push_reserved.ensures.items ∙ sym (added_true (chains s) l c.args.clause e);
       most = refl;
     }
 
@@ -39,6 +39,6 @@ returns-in-False c =
     let head : c.index-in-False.result.now ≡ get_or (vec_items s.negative) (variable l) 0 = get_or_read (vec_items s.negative) c.variable-v.result c.index-in-False.result.now w c.index-in-False.ensures 0 ∙ ap (λ z. get_or (vec_items s.negative) z 0) v in
     let first : set (vec_items s.negative) c.variable-v.result (c.len-entry.result + 1) ≡ set (vec_items s.negative) (variable l) (length (vec_items s.next) + 1) = ap (λ z. set (vec_items s.negative) z (c.len-entry.result + 1)) v ∙ ap (set (vec_items s.negative) (variable l)) n in
     record {
-      value = chains_eq _ _ _ _ _ _ _ _ refl first (c.push-reserved-in-False.ensures.items ∙ ap (λ z. vec_items s.next ++ z ∷ []) head) c.push-reserved.ensures.items ∙ sym (added_false (chains s) l c.args.clause e);
+      value = chains_eq _ _ _ _ _ _ _ _ refl first (c.push_reserved-in-False.ensures.items ∙ ap (λ z. vec_items s.next ++ z ∷ []) head) c.push_reserved.ensures.items ∙ sym (added_false (chains s) l c.args.clause e);
       most = refl;
     }

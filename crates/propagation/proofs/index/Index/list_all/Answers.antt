@@ -11,8 +11,8 @@ use Rattle.propagation.proofs.index.Index.list_all.Goals as goal
 pub loop-i-init : goal.loop-i-init
 loop-i-init c = (c.clear.ensures.value ∙ sym (all_none (no_chains (c.args.n + 1)) 0), refl)
 
-pub add-clause-requires : goal.add-clause-requires
-add-clause-requires c =
+pub add_clause-requires : goal.add_clause-requires
+add_clause-requires c =
     let cs = (stood_of c.args.store.now).held in
     let p = c.args.n + 1 in
     let i = c.loop-i.i in
@@ -37,13 +37,13 @@ loop-i-preserved c =
     let l : i < length cs = omega (arith, c.count-i-end.ensures) in
     let t : length (take i cs) ≡ i = length-take i cs ∙ (let q : Prim.Native.Nat.min i (length cs) ≡ i = omega arith in q) in
     let z : 0 + length (take i cs) ≡ i = omega arith in (
-      c.add-clause.ensures.value
+      c.add_clause.ensures.value
           ∙ ap (λ y. added_clause y c.clause.result.now i) c.loop-i.invariant.0
           ∙ ap (λ (y : List ℤ). added_clause (added_all (no_chains p) (take i cs) 0) y i) c.clause.ensures
           ∙ ap (added_clause (added_all (no_chains p) (take i cs) 0) (get_or cs i [])) (sym z)
           ∙ sym (all_push (no_chains p) (take i cs) (get_or cs i []) 0)
           ∙ ap (λ y. added_all (no_chains p) y 0) (sym (take_more cs i [] l)),
-      c.add-clause.ensures.most ∙ c.loop-i.invariant.1,
+      c.add_clause.ensures.most ∙ c.loop-i.invariant.1,
     )
 
 pub returns : goal.returns
