@@ -15,8 +15,8 @@ fn write_clause<H: Holder>(
     i: usize,
     most: usize,
 ) -> Result<(), AllocError>
-    requires { orderly holder.now → (i < length (stood holder.now).held) × (size (stood holder.now).held ≤ most) }
-    ensures { orderly holder.now → OnOk result (string_bytes out.new ≡ string_bytes out.old ++ clause_text (slice_index_or (stood holder.now).held i [])) }
+    requires { H.orderly holder.now → (i < length (H.stood holder.now).held) × (size (H.stood holder.now).held ≤ most) }
+    ensures { H.orderly holder.now → OnOk result (string_bytes out.new ≡ string_bytes out.old ++ clause_text (slice_index_or (H.stood holder.now).held i [])) }
 {
     for j in 0..most {
         let Ok(l) = holder.literal(i, j) else {
@@ -34,8 +34,8 @@ fn write_clauses<H: Holder>(
     n: usize,
     most: usize,
 ) -> Result<(), AllocError>
-    requires { orderly holder.now → (n ≡ length (stood holder.now).held) × (size (stood holder.now).held ≤ most) }
-    ensures { orderly holder.now → OnOk result (string_bytes out.new ≡ string_bytes out.old ++ joined clause_text (stood holder.now).held) }
+    requires { H.orderly holder.now → (n ≡ length (H.stood holder.now).held) × (size (H.stood holder.now).held ≤ most) }
+    ensures { H.orderly holder.now → OnOk result (string_bytes out.new ≡ string_bytes out.old ++ joined clause_text (H.stood holder.now).held) }
 {
     for i in 0..n {
         write_clause(out, holder, i, most)?;
@@ -45,7 +45,7 @@ fn write_clauses<H: Holder>(
 
 // All clauses of the holder, under a header with their number.
 pub fn write_page<H: Holder>(heap: Global, holder: &H, variables: u32) -> Result<String, AllocError>
-    ensures { orderly holder.now → IfOk result (λ t. string_bytes t ≡ page_text variables (stood holder.now).held) }
+    ensures { H.orderly holder.now → IfOk result (λ t. string_bytes t ≡ page_text variables (H.stood holder.now).held) }
 {
     let caps = holder.caps();
     let clauses = caps.clauses.saturating_sub(holder.room().clauses);
