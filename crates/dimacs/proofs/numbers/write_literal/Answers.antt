@@ -6,7 +6,7 @@ use Rattle.std.proofs.lemmas.Int.{to_z-of_z}
 use Rattle.dimacs.proofs.Pushed.{once_pushed}
 use Rattle.dimacs.proofs.Digits.{with_sign, without_sign, with_space}
 use Rattle.dimacs.proofs.numbers.write_literal.Goals as goal
-use Rattle.dimacs.proofs.numbers.write_literal.Goals.{then-l-lt0+in-ok-push, else-l-lt0}
+use Rattle.dimacs.proofs.numbers.write_literal.Goals.{then-l-lt0+in_ok-push, else-l-lt0}
 
 pub returns : goal.returns
 returns c =
@@ -17,7 +17,7 @@ returns c =
     let same = to_z-of_z w32 l c.ranges.l in
     let number : mid ++ decimal (nat_abs l) ≡ was ++ signed_decimal l =
     elim c.if-l-lt0.branch [
-      | then-l-lt0+in-ok-push w ↦
+      | then-l-lt0+in_ok-push w ↦
           let sign = w.in_ok-push.ensures in
           let h : lt_z l (pos 0) ≡ true = ap (λ z. lt_z z (pos 0)) (sym same) ∙ w.if-l-lt0.true in
           with_sign was mid l h (ap string_bytes w.out-is ∙ sign.bytes ∙ ap (λ z. was ++ z) (sign.ascii (omega arith)))

@@ -4,7 +4,7 @@ use Rattle.dimacs.specs.Text.{literal_text, clause_text}
 use Rattle.dimacs.proofs.Pushed.{once_pushed}
 use Rattle.dimacs.proofs.Coming.{one_more, all_written, clause_step, clause_short}
 use Rattle.dimacs.proofs.writing.write_clause.Goals as goal
-use Rattle.dimacs.proofs.writing.write_clause.Goals.{else-loop-j-test, then-loop-j-test+in-default}
+use Rattle.dimacs.proofs.writing.write_clause.Goals.{else-loop-j-test, then-loop-j-test+in_default}
 
 pub loop-j-preserved : goal.loop-j-preserved
 loop-j-preserved g c o =
@@ -25,6 +25,6 @@ returns g c o =
     let past : length k ≤ c.loop-j.j =
     elim c.loop-j-test.branch [
       | else-loop-j-test w ↦ omega arith
-      | then-loop-j-test+in-default w ↦ (w.in_default.ensures o).1 pre.0
+      | then-loop-j-test+in_default w ↦ (w.in_default.ensures o).1 pre.0
     ] in
     once_pushed c.push_str.result _ out (codes "0\n") c.push_str.ensures.bytes (all_written clause_text k c.loop-j.j out (c.loop-j.invariant o) past)

@@ -5,7 +5,7 @@ use Rattle.forcing.proofs.moves.fill.Goals as goal
 
 pub loop-i-preserved : goal.loop-i-preserved
 loop-i-preserved c = (
-  c.push_reserved.ensures.items ∙ ap (λ z. z ++ Open ∷ []) c.loop-i.invariant.0 ∙ replicate_more c.loop-i.-i Open,
+  c.push_reserved.ensures.items ∙ ap (λ z. z ++ Open ∷ []) c.loop-i.invariant.0 ∙ replicate_more c.loop-i._i Open,
   search rules,
   search rules,
 )

@@ -7,4 +7,4 @@ pub invariant_of-self : goal.invariant_of-self
 invariant_of-self c =
     let e = ap opens c.fill.ensures.items in
     let f = opens_all (c.min.result + 1) in
-    (search rules, (search rules, (omega (arith, c.clear.ensures.len, c.min.ensures), tt)))
+    record { values_room = search rules; trail_room = search rules; few = omega (arith, c.clear.ensures.len, c.min.ensures) }

@@ -7,4 +7,4 @@ pub invariant_of-result : goal.invariant_of-result
 invariant_of-result c =
     let v = c.in_ok-values.ensures in
     let t = c.in_ok-trail.ensures in
-    (v.capacity, (t.capacity, (omega (arith, opens_none, ap opens v.items, t.len), tt)))
+    record { values_room = v.capacity; trail_room = t.capacity; few = omega (arith, opens_none, ap opens v.items, t.len) }

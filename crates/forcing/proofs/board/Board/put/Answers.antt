@@ -21,4 +21,4 @@ invariant_of-self c =
     let e : settable a c.args.v c.args.value ≡ true = ap (λ z. settable z c.args.v c.args.value) (sym c.deref.ensures.value) ∙ sym c.if-settable.ensures in
     let t = settable_parts a c.args.v c.args.value e in
     let o = opens_set a c.args.v c.args.value t.0 t.1 t.2 in
-    (search rules, (search rules, (omega (arith, s.few, c.push_reserved.ensures.len), tt)))
+    record { values_room = search rules; trail_room = search rules; few = omega (arith, s.few, c.push_reserved.ensures.len) }

@@ -14,7 +14,7 @@ invariant_of-self c =
     let p = c.requires in
     let n = c.len-last.ensures in
     let t = c.truncate.ensures.len in
-    (search rules, (search rules, (omega arith, tt)))
+    record { values_room = search rules; trail_room = search rules; few = omega arith }
 
 pub returns-else-v-len : goal.returns-else-v-len
 returns-else-v-len c =
