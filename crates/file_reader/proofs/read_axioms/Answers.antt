@@ -9,7 +9,7 @@ use Rattle.file_reader.proofs.read_axioms.Goals as goal
 
 pub returns-in_err-next_axiom : goal.returns-in_err-next_axiom
 returns-in_err-next_axiom c =
-    let p = err_from_is_err_and c.from-residual.result c.from-residual.ensures.1 in
+    let p = err_from_is_err_and c.from_residual.result c.from_residual.ensures.1 in
     let at = c.loop.place.at in
     rw (p.1, p.2) (fault_told 3 (axioms_drafted c.loop.draft) at (drop at c.args.file.now) _ _ c.loop.invariant c.in_err-next_axiom.ensures.0)
 

@@ -10,7 +10,7 @@ returns-in_err-axioms c =
     let file = c.args.file.now in
     let n = c.in_ok-facts.facts in
     let place = c.next_facts.new.place.at in
-    let p = err_from_is_err_and c.from-residual-in_err-axioms.result c.from-residual-in_err-axioms.ensures.1 in
+    let p = err_from_is_err_and c.from_residual-in_err-axioms.result c.from_residual-in_err-axioms.ensures.1 in
     rw (p.1, p.2) (start_faulty n place (next_field 2 2 (drop place file)) _ _ (facts_read file n place c.in_ok-facts.ensures) c.in_err-axioms.ensures.0)
 
 pub returns : goal.returns

@@ -4,6 +4,6 @@ use Rattle.problem_file.proofs.reading.judged_rule.Goals as goal
 
 pub returns-in_err-value : goal.returns-in_err-value
 returns-in_err-value c =
-    let p = err_from_is_err_and c.from-residual.result c.from-residual.ensures.1 in
+    let p = err_from_is_err_and c.from_residual.result c.from_residual.ensures.1 in
     let s = c.in_err-value.ensures in
     rw (p.1, p.2) (field_faulty 4 _ _ _ _ s.0 s.1)

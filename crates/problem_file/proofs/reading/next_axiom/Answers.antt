@@ -9,7 +9,7 @@ use Rattle.problem_file.proofs.reading.next_axiom.Goals as goal
 
 pub returns-in_err-axiom : goal.returns-in_err-axiom
 returns-in_err-axiom c =
-    let p = err_from_is_err_and c.from-residual.result c.from-residual.ensures.1 in
+    let p = err_from_is_err_and c.from_residual.result c.from_residual.ensures.1 in
     let d = axioms_drafted c.args.draft.now in
     let found = next_field 3 5 (drop c.args.place.now.at c.args.file.now) in
     rw (p.1, p.2) (faulty_still 3 d (λ v. axiom_due d (axiom_in_value v)) (axiom_agrees d) c.args.place.now.at found _ c.in_err-axiom.ensures, refl, c.drop-guard.ensures)

@@ -11,7 +11,7 @@ use Rattle.problem_file.proofs.reading.next_goal.Goals as goal
 
 pub returns-in_err-goal : goal.returns-in_err-goal
 returns-in_err-goal c =
-    let p = err_from_is_err_and c.from-residual.result c.from-residual.ensures.1 in
+    let p = err_from_is_err_and c.from_residual.result c.from_residual.ensures.1 in
     let d = goals_drafted c.args.draft.now in
     let found = next_field 5 5 (drop c.args.place.now.at c.args.file.now) in
     rw (p.1, p.2) (faulty_still 5 d (λ v. goal_due d (goal_in_value v)) (goal_agrees d) c.args.place.now.at found _ c.in_err-goal.ensures, refl, c.drop-guard.ensures)

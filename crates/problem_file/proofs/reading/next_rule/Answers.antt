@@ -12,7 +12,7 @@ use Rattle.problem_file.proofs.reading.next_rule.Goals as goal
 
 pub returns-in_err-placed : goal.returns-in_err-placed
 returns-in_err-placed c =
-    let p = err_from_is_err_and c.from-residual.result c.from-residual.ensures.1 in
+    let p = err_from_is_err_and c.from_residual.result c.from_residual.ensures.1 in
     let d = rules_drafted c.args.draft.now in
     let found = next_field 4 5 (drop c.args.place.now.at c.args.file.now) in
     rw (p.1, p.2) (faulty_still 4 d (λ v. rule_due d (rule_in_value v)) (rule_agrees d) c.args.place.now.at found _ c.in_err-placed.ensures, refl, c.drop-guard.ensures)
