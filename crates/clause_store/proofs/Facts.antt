@@ -1,12 +1,11 @@
 -- What the calls answer, of clauses that lie one after another.
-use Rattle.std.proofs.Common.{◌≡◌, ℕ, ◌+◌, ◌-◌, ◌<◌, ◌≤◌, Bool, true, false, cond, ◌&&◌, ◌||◌, leb, List, [], ◌∷◌, ◌++◌, length, get_or, take, drop, ℤ, Ok, Err, Result, sym, refl, ap, ◌∙◌, subst, arith, length-drop, length-take}
+use Rattle.std.proofs.Common.{◌≡◌, ℕ, ◌+◌, ◌-◌, ◌<◌, ◌≤◌, true, false, cond, leb, List, [], ◌∷◌, ◌++◌, length, get_or, take, drop, ℤ, Ok, Err, sym, ap, ◌∙◌, arith, length-drop, length-take}
 use Rattle.std.proofs.lemmas.Bool.{and_from, and_left, and_right, le-leb, lt-leb, cond-true, cond-false}
 use Rattle.std.proofs.lemmas.List.{get_or-take, get_or-drop, get_or_read, length_push}
 use Rattle.holder.specs.Clauses.{Stood, Rest, proper, size, fits, grown}
 use Rattle.holder.specs.Answers.{taken, was_cut}
-use Rattle.refusals.specs.declared.refusal.Refusal.{Refusal}
 use Rattle.holder.specs.declared.size.Size.{Size}
-use Rattle.refusals.specs.declared.refusal.Refusal.TheVariants.{BeyondList, BadClause, CutBeyond, NoRoom}
+use Rattle.refusals.specs.declared.refusal.Refusal.TheVariants.{BadClause, CutBeyond, NoRoom}
 use Rattle.clause_store.specs.Flat.{cut_up, ordered, end_of}
 use Rattle.clause_store.specs.Cuts.{length-cut_up, size-cut_up, cut_up_at, end_step}
 

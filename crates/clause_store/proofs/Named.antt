@@ -1,11 +1,11 @@
 -- Variables of literals that lie one after another.
-use Rattle.std.proofs.Common.{◌≡◌, ℕ, zero, suc, ◌+◌, ◌-◌, ◌<◌, ◌≤◌, max, Bool, true, false, cond, ◌&&◌, eqb, ltb, leb, List, [], ◌∷◌, ◌++◌, length, get_or, take, drop, ℤ, sym, refl, ap, ◌∙◌, subst, arith}
+use Rattle.std.proofs.Common.{◌≡◌, ℕ, zero, suc, ◌+◌, ◌-◌, ◌<◌, max, true, ◌&&◌, ltb, leb, List, [], ◌∷◌, ◌++◌, length, get_or, take, drop, ℤ, sym, refl, ap, ◌∙◌, arith}
 use Rattle.std.proofs.lemmas.Bool.{and_parts, and_from, leb-true, eqb-true}
 use Rattle.std.proofs.lemmas.List.{drop_all, drop-drop, take-append-drop}
 use Rattle.refusals.specs.Limits.{longest_clause}
 use Rattle.holder.specs.Clauses.{all_fine, proper}
 use Rattle.holder.specs.Widest.{variable, widest_of, widest}
-use Rattle.clause_store.specs.Flat.{cut_up, ordered, end_of}
+use Rattle.clause_store.specs.Flat.{cut_up, ordered}
 
 fine_append : (xs ys : List ℤ) → all_fine xs ≡ true → all_fine ys ≡ true → all_fine (xs ++ ys) ≡ true
 fine_append [] ys h k = k

@@ -1,5 +1,5 @@
 -- What the clause store holds.
-use Rattle.std.specs.Prelude.{ℕ, true, vec_items}
+use Rattle.std.specs.Prelude.{true, vec_items}
 use Rattle.holder.specs.Clauses.{Stood, Rest}
 use Rattle.clause_store.specs.Flat.{cut_up}
 use Rattle.clause_store.specs.declared.store.Store.{Store}

@@ -1,5 +1,5 @@
 -- The reading of any bytes as a problem, or as the first fault with the byte at which its field begins.
-use Rattle.std.specs.Prelude.{ℕ, zero, suc, ◌+◌, Bool, cond, List, [], ◌∷◌, length, Some, None, Option, ◌==◌, nat_lt}
+use Rattle.std.specs.Prelude.{ℕ, zero, suc, ◌+◌, cond, List, [], ◌∷◌, length, Some, None, Option, ◌==◌, nat_lt}
 use Rattle.runs.specs.Problems.{Axiom, Rule, Goal, Problem}
 use Rattle.refusals.specs.Limits.{most_facts}
 use Rattle.refusals.specs.declared.refusal.Refusal.{Refusal}

@@ -1,5 +1,5 @@
 -- The two opening fields, and what the bytes say after them.
-use Rattle.std.proofs.Common.{◌≡◌, ℕ, ◌+◌, ◌≤◌, Bool, true, false, ◌⊎◌, List, [], ◌∷◌, length, drop, Some, None, Ok, Err, Option, sym, refl, ap, ◌∙◌, subst, inl, inr, arith}
+use Rattle.std.proofs.Common.{◌≡◌, ℕ, ◌+◌, Bool, true, false, List, length, drop, Some, None, Ok, sym, refl, ap, ◌∙◌, inl, inr, arith}
 use Rattle.std.proofs.lemmas.Bool.{cond-true}
 use Rattle.refusals.specs.Limits.{most_facts}
 use Rattle.refusals.specs.declared.refusal.Refusal.{Refusal}
@@ -9,9 +9,9 @@ use Rattle.problem.specs.Faults.{unless, start_fault}
 use Rattle.problem.specs.Tables.{axioms_drafted}
 use Rattle.problem.specs.declared.drafts.AxiomDraft.{AxiomDraft}
 use Rattle.file_format.specs.Fields.{Found, ended, short, wrong, field, next_field}
-use Rattle.file_format.specs.Reading.{Read, whole, fault, read, read_facts, read_start, started, opened, all_fields}
+use Rattle.file_format.specs.Reading.{Read, fault, read, read_facts, read_start, started, all_fields}
 use Rattle.problem_file.specs.Layers.{of_record}
-use Rattle.problem_file.specs.Opens.{owed, facts_due, Owing, FactsSay, StartSays}
+use Rattle.problem_file.specs.Opens.{owed, Owing, FactsSay, StartSays}
 use Rattle.problem_file.specs.declared.faults.RecordFault.{RecordFault}
 use Rattle.file_reader.specs.Whole.{FaultIs}
 

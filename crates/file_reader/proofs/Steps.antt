@@ -1,14 +1,14 @@
 -- One field after another: what the bytes say from a place on.
-use Rattle.std.proofs.Common.{◌≡◌, ℕ, zero, suc, ◌+◌, ◌-◌, ◌*◌, ◌<◌, ◌≤◌, Bool, true, false, cond, ◌&&◌, eqb, ltb, leb, ◌⊎◌, List, [], ◌∷◌, length, take, drop, Ok, Err, Result, sym, refl, ap, ◌∙◌, subst, inl, inr, arith}
+use Rattle.std.proofs.Common.{◌≡◌, ℕ, zero, suc, ◌+◌, ◌*◌, ◌<◌, ◌≤◌, Bool, true, false, cond, ◌&&◌, eqb, leb, List, [], ◌∷◌, length, take, drop, Ok, Err, Result, sym, refl, ap, ◌∙◌, subst, inl, inr, arith}
 use Rattle.std.proofs.lemmas.List.{length-drop, length-take-le, drop-drop}
-use Rattle.std.proofs.lemmas.Bool.{eqb-true, eqb-false, leb-true, le-leb, and_parts, and_from, cond-true}
+use Rattle.std.proofs.lemmas.Bool.{eqb-true, leb-true, le-leb, and_parts, and_from, cond-true}
 use Rattle.refusals.specs.declared.refusal.Refusal.{Refusal}
 use Rattle.runs.specs.Problems.{Problem}
-use Rattle.file_format.specs.Fields.{Found, ended, short, wrong, field, tagged, next_field}
-use Rattle.file_format.specs.Reading.{Taken, refused, grown, take_value, Read, whole, fault, go_on, after, fields, all_fields}
-use Rattle.problem_file.specs.Next.{Next, over, stopped, goes, tagged_next, with_value, next_record, Faulty}
+use Rattle.file_format.specs.Fields.{Found, ended, short, wrong, field, next_field}
+use Rattle.file_format.specs.Reading.{Taken, refused, grown, take_value, Read, fault, go_on, after, fields, all_fields}
+use Rattle.problem_file.specs.Next.{Next, over, stopped, goes, with_value, next_record, Faulty}
 use Rattle.problem_file.specs.declared.faults.ProblemFault.{ProblemFault}
-use Rattle.file_reader.specs.Whole.{ended_with, FaultIs, FileSays}
+use Rattle.file_reader.specs.Whole.{FaultIs, FileSays}
 use Rattle.problem.specs.declared.drafts.Problem.{Problem as CodeProblem}
 
 clash : {A : Type 0} → ◌≡◌ {A = ℕ} 0 1 → A

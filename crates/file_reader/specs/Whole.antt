@@ -1,5 +1,5 @@
 -- What reading a whole file answers, by what its bytes say.
-use Rattle.std.specs.Prelude.{◌≡◌, ℕ, suc, ◌<◌, cond, ◌⊎◌, List, length, drop, Ok, Err, Result, nat_lt}
+use Rattle.std.specs.Prelude.{◌≡◌, ℕ, suc, cond, ◌⊎◌, List, length, drop, Ok, Err, Result, nat_lt}
 use Rattle.refusals.specs.declared.refusal.Refusal.TheVariants.{Missing, OutOfMemory}
 use Rattle.runs.specs.Problems as runs
 use Rattle.problem.specs.Tables.{view}

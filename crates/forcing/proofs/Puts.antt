@@ -1,10 +1,10 @@
 -- Variables that are set, and picked.
-use Rattle.std.proofs.Common.{◌≡◌, ℕ, ◌<◌, ◌≤◌, Bool, true, false, cond, not, ◌&&◌, ltb, ◌⊎◌, List, [], ◌∷◌, ◌++◌, length, get_or, set, Some, None, Option, sym, refl, ap, ◌∙◌, subst, inl, inr, arith}
+use Rattle.std.proofs.Common.{◌≡◌, ℕ, ◌<◌, ◌≤◌, true, false, not, ◌&&◌, ltb, List, [], ◌∷◌, ◌++◌, length, get_or, set, Some, None, Option, sym, refl, ap, ◌∙◌, inl, inr, arith}
 use Rattle.std.proofs.lemmas.Bool.{and_parts, and_from, both_ways, ltb-true, lt-ltb, cond-true, cases_lt}
 use Rattle.trials.specs.declared.value.Value.{Value}
 use Rattle.trials.specs.declared.value.Value.TheVariants.{Open, True, False}
 use Rattle.forcing.specs.Boards.{is_open, settable, WasPut}
-use Rattle.forcing.specs.Picks.{SetBetween, Smallest, Picked, FirstOf}
+use Rattle.forcing.specs.Picks.{SetBetween, Picked, FirstOf}
 
 open_is : (x : Value) → is_open x ≡ true → x ≡ Open
 open_is Open e = refl

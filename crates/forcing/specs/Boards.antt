@@ -1,5 +1,5 @@
 -- What a board holds, how it changes and how it goes back.
-use Rattle.std.specs.Prelude.{◌≡◌, ℕ, Bool, true, false, cond, not, ◌&&◌, List, [], ◌∷◌, ◌++◌, length, take, drop, set, ℤ, vec_items, MatchBool, nat_lt, slice_index_or, slice_set}
+use Rattle.std.specs.Prelude.{◌≡◌, ℕ, Bool, true, false, cond, not, ◌&&◌, List, [], ◌∷◌, ◌++◌, length, take, drop, ℤ, vec_items, MatchBool, nat_lt, slice_index_or, slice_set}
 use Rattle.trials.specs.declared.value.Value.{Value}
 use Rattle.trials.specs.declared.value.Value.TheVariants.{Open, True, False}
 use Rattle.trials.specs.Forcing.{Forcing, Conflict, Quiet}

@@ -1,5 +1,5 @@
 -- What each call of a holder answers.
-use Rattle.std.specs.Prelude.{◌≡◌, ℕ, ◌<◌, ◌≤◌, Bool, cond, List, [], ◌∷◌, length, ℤ, is_ok, Ok, Err, Result, nat_le, slice_index_or}
+use Rattle.std.specs.Prelude.{◌≡◌, ℕ, ◌<◌, ◌≤◌, cond, List, [], ◌∷◌, length, ℤ, is_ok, Ok, Err, Result, nat_le, slice_index_or}
 use Rattle.refusals.specs.declared.refusal.Refusal.{Refusal}
 use Rattle.refusals.specs.declared.refusal.Refusal.TheVariants.{BeyondList, BadClause, CutBeyond, NoRoom}
 use Rattle.holder.specs.Clauses.{Stood, grown, cut_to, fits, proper}

@@ -1,5 +1,5 @@
 -- Clauses that are held within caps.
-use Rattle.std.specs.Prelude.{ℕ, ◌+◌, ◌-◌, ◌≤◌, Bool, true, false, ◌&&◌, List, [], ◌∷◌, ◌++◌, length, take, ℤ, pos, negsuc, nat_le, nat_lt}
+use Rattle.std.specs.Prelude.{ℕ, ◌+◌, ◌-◌, ◌≤◌, Bool, true, ◌&&◌, List, [], ◌∷◌, ◌++◌, length, take, ℤ, pos, negsuc, nat_le, nat_lt}
 use Rattle.refusals.specs.Limits.{most_variables, longest_clause}
 use Rattle.holder.specs.declared.size.Size.{Size}
 

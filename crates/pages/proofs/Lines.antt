@@ -1,12 +1,9 @@
 -- Steps of what is printed.
-use Rattle.std.proofs.Common.{◌≡◌, ℕ, ◌<◌, ◌≤◌, Bool, true, false, cond, leb, ◌⊎◌, List, [], ◌∷◌, length, get_or, take, drop, is_some, IfOk, Some, None, Ok, Err, string_bytes, Option, Result, unwrap_or, sym, refl, ap, ◌∙◌, subst, inl, inr, arith}
-use Rattle.std.proofs.lemmas.List.{drop_more}
+use Rattle.std.proofs.Common.{◌≡◌, ℕ, ◌<◌, ◌≤◌, Bool, true, false, List, [], ◌∷◌, length, get_or, take, drop, is_some, IfOk, Ok, Err, Result, sym, ap, ◌∙◌, inl, inr, arith}
 use Rattle.std.proofs.lemmas.Bool.{cond-true, le-leb}
 use Rattle.refusals.specs.Limits.{deepest, most_file_bytes}
 use Rattle.refusals.specs.Numbers.{number_of}
-use Rattle.refusals.specs.declared.refusal.Refusal.{Refusal}
-use Rattle.refusals.specs.declared.refusal.Refusal.TheVariants.{OutOfMemory}
-use Rattle.file_format.specs.Reading.{Read, fault, read}
+use Rattle.file_format.specs.Reading.{Read, read}
 use Rattle.problem_file.specs.declared.faults.ProblemFault.{ProblemFault}
 use Rattle.file_reader.specs.Whole.{FaultIs}
 use Rattle.pages.specs.PageText.{refused_at_text, read_page_text, printed}

@@ -1,5 +1,5 @@
 -- The tables of a draft and of a problem, as the subject's problem; and the properties of every problem.
-use Rattle.std.specs.Prelude.{◌+◌, ◌<◌, ◌≤◌, List, [], ◌∷◌, ◌++◌, map, length, vec_items}
+use Rattle.std.specs.Prelude.{◌+◌, ◌<◌, ◌≤◌, [], ◌∷◌, ◌++◌, map, length, vec_items}
 use Rattle.runs.specs.Problems as runs
 use Rattle.runs.specs.Problems.{Each, WellFormed, Ascending}
 use Rattle.refusals.specs.Limits.{most_facts, most_axioms, most_rules, most_goals, longest_list}

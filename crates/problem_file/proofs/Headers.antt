@@ -1,8 +1,8 @@
 -- The field at a place of a file, by the bytes there.
-use Rattle.std.proofs.Common.{◌≡◌, ℕ, ◌+◌, ◌-◌, ◌*◌, ◌<◌, ◌≤◌, Bool, true, false, cond, ◌&&◌, leb, ◌⊎◌, List, [], ◌∷◌, length, get_or, take, drop, sym, refl, ap, ◌∙◌, subst, inl, inr, arith}
+use Rattle.std.proofs.Common.{◌≡◌, ℕ, ◌+◌, ◌-◌, ◌*◌, ◌<◌, ◌≤◌, Bool, false, cond, ◌&&◌, leb, ◌⊎◌, List, [], ◌∷◌, length, get_or, take, drop, sym, refl, ap, ◌∙◌, inl, inr, arith}
 use Rattle.std.proofs.lemmas.List.{drop_all, drop_more, drop-drop, length-drop, length-take-le}
 use Rattle.std.proofs.lemmas.Bool.{le-leb, lt-leb, and_from, and_left, and_right, cond-true, cond-false}
-use Rattle.file_format.specs.Fields.{Found, ended, short, wrong, field, tagged, next_field}
+use Rattle.file_format.specs.Fields.{ended, short, wrong, field, tagged, next_field}
 
 pub few : (low high : ℕ) (bs : List ℕ) → 0 < length bs → length bs < 3 → next_field low high bs ≡ short
 few low high [] p q = absurd (omega arith)

@@ -1,16 +1,15 @@
 -- Faults, with the layers that find them.
-use Rattle.std.proofs.Common.{◌≡◌, ℕ, Bool, true, false, ◌&&◌, ltb, ◌⊎◌, List, length, Some, None, Option, sym, refl, ap, ◌∙◌, inl, inr, arith}
+use Rattle.std.proofs.Common.{◌≡◌, ℕ, Bool, true, false, ◌&&◌, ltb, List, length, Some, None, Option, sym, ap, ◌∙◌, inr, arith}
 use Rattle.refusals.specs.declared.refusal.Refusal.{Refusal}
-use Rattle.refusals.specs.declared.refusal.Refusal.TheVariants.{CutShort, WrongTag, OutOfRange, Unordered, WrongCount, TableFull, BadLabel}
 use Rattle.runs.specs.Problems.{Axiom, Rule, Goal, Problem}
 use Rattle.refusals.specs.Limits.{most_axioms, most_rules, most_goals}
 use Rattle.problem.specs.Lists.{rises}
-use Rattle.problem.specs.Faults.{short as briefly, shape, first, unless, axiom_shape, rule_shape, goal_shape}
+use Rattle.problem.specs.Faults.{short as briefly, shape, axiom_shape, rule_shape, goal_shape}
 use Rattle.problem.specs.Views.{axiom_in, rule_in, goal_in}
 use Rattle.file_format.specs.Fields.{Found, ended, short, wrong, field}
 use Rattle.problem_file.specs.declared.faults.FieldFault.{FieldFault}
 use Rattle.problem_file.specs.declared.faults.RecordFault.{RecordFault}
-use Rattle.problem_file.specs.declared.faults.Layer.TheVariants.{Field, Record}
+use Rattle.problem_file.specs.declared.faults.Layer.TheVariants.{Record}
 use Rattle.problem_file.specs.Layers.{of_field, of_record, layer_of}
 use Rattle.problem_file.specs.Says.{field_refusal}
 use Rattle.problem_file.specs.Next.{Next, stopped, tagged_next, Faulty}

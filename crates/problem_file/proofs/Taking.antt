@@ -1,20 +1,18 @@
 -- From a record judged by itself to what the draft makes of it.
-use Rattle.std.proofs.Common.{◌≡◌, ℕ, Bool, true, false, cond, not, eqb, ltb, ◌⊎◌, List, Some, None, Option, unwrap_or, sym, refl, ap, ◌∙◌, inl, inr, arith}
+use Rattle.std.proofs.Common.{◌≡◌, ℕ, Bool, true, false, cond, not, eqb, ◌⊎◌, List, Some, None, Option, unwrap_or, sym, refl, ap, ◌∙◌, inl, inr, arith}
 use Rattle.refusals.specs.declared.refusal.Refusal.{Refusal}
-use Rattle.refusals.specs.declared.refusal.Refusal.TheVariants.{WrongLength, BadLabel, LowConclusion, RemovesAxiomFact, ForbidsConclusion, EmptyGoal, OutOfMemory}
+use Rattle.refusals.specs.declared.refusal.Refusal.TheVariants.{BadLabel, LowConclusion, RemovesAxiomFact, ForbidsConclusion, EmptyGoal, OutOfMemory}
 use Rattle.runs.specs.Problems.{Axiom, Rule, Goal, Problem}
 use Rattle.problem.specs.Faults.{unless, first, axiom_shape, axiom_law, axiom_fault, rule_shape, rule_law, rule_fault, goal_shape, goal_law, goal_fault}
 use Rattle.runs.specs.Steps.{any}
 use Rattle.problem.specs.Views.{takes_from, bars}
 use Rattle.problem.specs.Tables.{with_axiom, with_rule, with_goal}
 use Rattle.file_format.specs.Fields.{Found, ended, short, wrong, field, label_fine, axiom_in_value, rule_in_value, goal_in_value}
-use Rattle.file_format.specs.Reading.{Taken, refused, grown, unless_refused, take_axiom, take_rule, take_goal, take_value, labelled_fault}
-use Rattle.problem_file.specs.declared.faults.Layer.{Layer}
+use Rattle.file_format.specs.Reading.{refused, unless_refused, take_axiom, take_rule, take_goal, take_value, labelled_fault}
 use Rattle.problem_file.specs.declared.faults.Layer.TheVariants.{Problem as AtProblem}
-use Rattle.problem_file.specs.declared.faults.RecordFault.{RecordFault}
 use Rattle.problem_file.specs.declared.faults.ProblemFault.{ProblemFault}
-use Rattle.problem_file.specs.Layers.{of_record, layer_of}
-use Rattle.problem_file.specs.Next.{Next, over, stopped, goes, tagged_next, unless_due, axiom_due, rule_due, goal_due, judged, with_value, next_record, Faulty}
+use Rattle.problem_file.specs.Layers.{layer_of}
+use Rattle.problem_file.specs.Next.{over, stopped, goes, unless_due, axiom_due, rule_due, goal_due, judged, with_value, next_record, Faulty}
 use Rattle.problem_file.proofs.Layered.{some_same, none_some}
 
 clash : {A : Type 0} → ◌≡◌ {A = ℕ} 0 1 → A

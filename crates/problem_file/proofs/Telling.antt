@@ -1,12 +1,11 @@
 -- What the draft makes of a judged record, as the reader tells it.
-use Rattle.std.proofs.Common.{◌≡◌, ℕ, ◌⊎◌, List, Some, None, Ok, Err, Option, unwrap_or, sym, refl, ap, ◌∙◌, subst, inl, inr}
+use Rattle.std.proofs.Common.{◌≡◌, ℕ, ◌⊎◌, List, Some, None, Ok, Option, unwrap_or, sym, ap, ◌∙◌, subst, inl, inr}
 use Rattle.refusals.specs.declared.refusal.Refusal.{Refusal}
 use Rattle.refusals.specs.declared.refusal.Refusal.TheVariants.{OutOfMemory}
 use Rattle.runs.specs.Problems.{Axiom, Rule, Goal, Problem}
 use Rattle.problem.specs.Faults.{axiom_fault, rule_fault, goal_fault}
 use Rattle.problem.specs.Tables.{with_axiom, with_rule, with_goal}
 use Rattle.file_format.specs.Fields.{Found, axiom_in_value, rule_in_value, goal_in_value}
-use Rattle.file_format.specs.Reading.{take_value}
 use Rattle.problem_file.specs.declared.faults.Layer.TheVariants.{Problem as AtProblem}
 use Rattle.problem_file.specs.declared.faults.ProblemFault.{ProblemFault}
 use Rattle.problem_file.specs.declared.records.Placed.{Placed}
@@ -15,7 +14,7 @@ use Rattle.problem_file.specs.declared.records.LabelledRule.{LabelledRule}
 use Rattle.problem_file.specs.declared.records.GoalLists.{GoalLists}
 use Rattle.problem_file.specs.Layers.{layer_of}
 use Rattle.problem_file.specs.Lists.{axiom_listed, rule_listed, goal_listed}
-use Rattle.problem_file.specs.Next.{Next, stopped, goes, axiom_due, rule_due, goal_due, judged, with_value, next_record, Faulty, Took}
+use Rattle.problem_file.specs.Next.{Next, stopped, goes, axiom_due, rule_due, goal_due, judged, next_record, Faulty, Took}
 use Rattle.problem_file.specs.Records.{HoldsAxiom, HoldsRule, HoldsGoal, Judges, Takes}
 use Rattle.problem_file.proofs.Taking.{gone_on, axiom_agrees, rule_agrees, goal_agrees, axiom_taken, axiom_not, rule_taken, rule_not, goal_taken, goal_not}
 

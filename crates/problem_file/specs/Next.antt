@@ -1,13 +1,12 @@
 -- What the next field of a file is to a reader of one kind of record.
-use Rattle.std.specs.Prelude.{◌≡◌, ℕ, ◌+◌, ◌≤◌, cond, ◌⊎◌, List, length, Some, None, Ok, Err, Option, Result, ◌==◌}
+use Rattle.std.specs.Prelude.{◌≡◌, ℕ, ◌+◌, ◌≤◌, cond, ◌⊎◌, List, length, Some, None, Option, ◌==◌}
 use Rattle.refusals.specs.declared.refusal.Refusal.{Refusal}
 use Rattle.refusals.specs.declared.refusal.Refusal.TheVariants.{CutShort, WrongTag, WrongLength, BadLabel, OutOfMemory}
 use Rattle.runs.specs.Problems.{Axiom, Rule, Goal, Problem}
 use Rattle.problem.specs.Faults.{unless, first, axiom_shape, rule_shape, goal_shape}
-use Rattle.file_format.specs.Fields.{Found, ended, short, wrong, field, label_fine, axiom_in_value, rule_in_value, goal_in_value}
+use Rattle.file_format.specs.Fields.{Found, ended, short, wrong, field, label_fine}
 use Rattle.file_format.specs.Reading.{Taken, refused, grown, take_value}
 use Rattle.problem_file.specs.Layers.{layer_of}
-use Rattle.problem_file.specs.declared.faults.RecordFault.{RecordFault}
 use Rattle.problem_file.specs.declared.faults.ProblemFault.{ProblemFault}
 use Rattle.problem_file.specs.declared.records.Placed.{Placed}
 

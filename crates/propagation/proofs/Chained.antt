@@ -1,14 +1,14 @@
 -- What is listed, as entries are added.
-use Rattle.std.proofs.Common.{◌≡◌, ℕ, zero, suc, ◌+◌, ◌-◌, ◌<◌, ◌≤◌, ◌⊎◌, List, [], ◌∷◌, ◌++◌, length, get_or, take, set, replicate, ℤ, pos, negsuc, sym, refl, ap, ◌∙◌, subst, inl, inr, append_assoc, arith, length-append, length-set}
+use Rattle.std.proofs.Common.{◌≡◌, ℕ, zero, suc, ◌+◌, ◌<◌, ◌≤◌, ◌⊎◌, List, [], ◌∷◌, ◌++◌, length, get_or, take, set, replicate, ℤ, pos, negsuc, sym, refl, ap, ◌∙◌, subst, inl, inr, arith, length-set}
 use lib.ListN.{length-replicate}
 use Rattle.std.proofs.lemmas.Bool.{cases_eq, cases_lt}
-use Rattle.std.proofs.lemmas.List.{get_or_append_left, get_or_push, get_or-set_same, get_or-set_other, length_push, set_past, get_or_past}
+use Rattle.std.proofs.lemmas.List.{get_or_append_left, get_or_push, get_or-set_same, get_or-set_other, length_push, set_past}
 use Rattle.holder.specs.Widest.{variable}
 use Rattle.holder.specs.Clauses.{size}
-use Rattle.trials.specs.declared.value.Value.TheVariants.{Open, True, False}
+use Rattle.trials.specs.declared.value.Value.TheVariants.{True, False}
 use Rattle.trials.specs.Values.{sign}
 use Rattle.trials.specs.Exist.{Within, WithinClause}
-use Rattle.propagation.specs.Chains.{Chains, Leads, here, there, head, Lists, first_positive, first_negative, added, added_clause, added_all, no_chains, Good, Owned, ListsAll, Indexes}
+use Rattle.propagation.specs.Chains.{Chains, Leads, here, there, head, Lists, added, added_clause, added_all, no_chains, Good, Owned, Indexes}
 
 leads_more : (next owner : List ℕ) (x j : ℕ) → length owner ≡ length next → {from i : ℕ} → Leads next owner from i → Leads (next ++ x ∷ []) (owner ++ j ∷ []) from i
 leads_more next owner x j paired (here q i l e) = here q i (let h = length_push next x in omega arith) (get_or_append_left owner (j ∷ []) 0 q (omega arith) ∙ e)

@@ -1,9 +1,9 @@
 -- One forced literal more.
-use Rattle.std.proofs.Common.{◌≡◌, ℕ, ◌<◌, ◌≤◌, List, [], ◌∷◌, ◌++◌, length, get_or, set, ℤ, sym, refl, ap, ◌∙◌, subst, arith}
+use Rattle.std.proofs.Common.{◌≡◌, ℕ, ◌<◌, List, [], ◌∷◌, ◌++◌, length, get_or, set, ℤ, sym, ap, ◌∙◌, subst, arith}
 use Rattle.holder.specs.Widest.{variable}
 use Rattle.trials.specs.declared.value.Value.{Value}
 use Rattle.trials.specs.declared.value.Value.TheVariants.{Open}
-use Rattle.trials.specs.Values.{value, sign, holding, opens}
+use Rattle.trials.specs.Values.{sign, holding, opens}
 use Rattle.trials.specs.Forcing.{Forced, Forcing, rest, next}
 use Rattle.trials.specs.Exist.{Within, forced_within, open_at, opens_set, sign_set}
 use Rattle.forcing.specs.Boards.{Back}

@@ -1,16 +1,16 @@
 -- What a variable that is set leaves of the clauses that wait.
-use Rattle.std.proofs.Common.{◌≡◌, ℕ, zero, suc, ◌+◌, ◌-◌, ◌<◌, ◌≤◌, Bool, true, false, cond, ◌⊎◌, List, [], ◌∷◌, ◌++◌, length, get_or, set, ℤ, pos, negsuc, sym, refl, ap, ◌∙◌, subst, inl, inr, arith}
-use Rattle.std.proofs.lemmas.Bool.{cases_eq, cases_lt}
+use Rattle.std.proofs.Common.{◌≡◌, ℕ, suc, ◌+◌, ◌-◌, ◌<◌, ◌≤◌, cond, ◌⊎◌, List, [], ◌∷◌, ◌++◌, length, get_or, set, ℤ, pos, negsuc, sym, refl, ap, ◌∙◌, subst, inl, inr, arith}
+use Rattle.std.proofs.lemmas.Bool.{cases_eq}
 use Rattle.std.proofs.lemmas.List.{get_or_append_left, get_or_push, get_or-set_other, length_push}
 use Rattle.holder.specs.Widest.{variable}
 use Rattle.trials.specs.declared.value.Value.{Value}
 use Rattle.trials.specs.declared.value.Value.TheVariants.{Open, True, False}
-use Rattle.trials.specs.Values.{value, is_false, flip, sign, holding}
-use Rattle.trials.specs.Forcing.{live, Calm, Quiet, Forced}
-use Rattle.trials.proofs.Below.{Below, below_true, below_false, true_set, false_set, true_false, flip_back, live_below}
+use Rattle.trials.specs.Values.{value, is_false, flip, sign}
+use Rattle.trials.specs.Forcing.{live, Calm, Quiet}
+use Rattle.trials.proofs.Below.{Below, below_true, below_false, true_set, false_set, flip_back, live_below}
 use Rattle.forcing.proofs.Judging.{calm_true}
-use Rattle.propagation.specs.Chains.{Chains, Leads, here, there, head, Lists, Good, Indexes}
-use Rattle.propagation.specs.Waits.{Waits, Watched, calm, waits, other, Awake, NoneElse, against}
+use Rattle.propagation.specs.Chains.{Chains, Leads, here, there, head, Good, Indexes}
+use Rattle.propagation.specs.Waits.{Watched, calm, waits, other, Awake, NoneElse, against}
 
 pub below_put : (b : List Value) (v : ℕ) (x : Value) → get_or b v Open ≡ Open → Below b (set b v x)
 below_put b v x o w y e s = elim (cases_eq w v) [

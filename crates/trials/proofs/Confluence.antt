@@ -1,10 +1,10 @@
 -- Forcing is confluent.
-use Rattle.std.proofs.Common.{◌≡◌, ℕ, ◌<◌, ◌≤◌, Bool, true, false, cond, ◌⊎◌, List, [], ◌∷◌, length, get_or, set, ℤ, sym, refl, ap, ◌∙◌, subst, inl, inr, arith, length-set}
+use Rattle.std.proofs.Common.{◌≡◌, ◌⊎◌, List, [], ◌∷◌, length, get_or, ℤ, sym, refl, ap, ◌∙◌, inl, inr, length-set}
 use Rattle.trials.specs.declared.value.Value.{Value}
 use Rattle.trials.specs.declared.value.Value.TheVariants.{Open, True, False}
 use Rattle.holder.specs.Widest.{variable}
-use Rattle.trials.specs.Values.{flip, value, is_false, sign, holding}
-use Rattle.trials.specs.Forcing.{live, Conflict, Forced, Forcing, rest, next, Maximal, Calm, Quiet, Confluent}
+use Rattle.trials.specs.Values.{value, sign, holding}
+use Rattle.trials.specs.Forcing.{live, Conflict, Forced, Forcing, rest, next, Maximal, Quiet, Confluent}
 use Rattle.trials.specs.Exist.{open_at}
 use Rattle.trials.proofs.Below.{Below, below_none, below_trans, live_below, below_holding, holding_below, below_both}
 

@@ -1,7 +1,7 @@
 -- What a course says of models.
-use Rattle.std.proofs.Common.{◌≡◌, ℕ, zero, suc, ◌+◌, ◌-◌, ◌<◌, ◌≤◌, max, Bool, true, false, cond, not, ◌&&◌, ◌||◌, T, ltb, leb, ◌⊎◌, List, [], ◌∷◌, map, length, get_or, take, drop, set, replicate, ℤ, pos, negsuc, Some, None, Option, sym, refl, ap, ◌∙◌, subst, inl, inr, add-one, arith, length-drop, length-set, length-take}
+use Rattle.std.proofs.Common.{◌≡◌, ℕ, zero, suc, ◌+◌, ◌-◌, ◌<◌, ◌≤◌, Bool, true, false, cond, not, T, ltb, leb, ◌⊎◌, List, [], ◌∷◌, map, length, get_or, take, drop, replicate, ℤ, pos, negsuc, Some, None, sym, refl, ap, ◌∙◌, subst, inl, inr, arith, length-drop, length-set, length-take}
 use lib.ListN.{length-replicate}
-use Rattle.std.proofs.lemmas.Bool.{and_parts, and_from, or_parts, or_left, or_right, or_cases, both_ways, cases_lt, cases_Bool, not-true, leb-true, ltb-true, cond-true, cond-false}
+use Rattle.std.proofs.lemmas.Bool.{and_parts, or_parts, or_left, or_right, or_cases, both_ways, cases_Bool, not-true, ltb-true, cond-true, cond-false}
 use Rattle.std.proofs.lemmas.List.{get_or-take, get_or-drop, length-map}
 use Rattle.trials.specs.declared.value.Value.{Value}
 use Rattle.trials.specs.declared.value.Value.TheVariants.{Open, True, False}
@@ -12,12 +12,12 @@ use Rattle.runs.specs.Models.{valued, Model}
 use Rattle.runs.proofs.Truth.{true_from, T-from}
 use Rattle.holder.specs.Clauses.{literal_fine, all_fine}
 use Rattle.holder.specs.Widest.{variable, widest, widest_of}
-use Rattle.trials.specs.Values.{flip, value, is_false, is_true, sign, holding, model_of}
-use Rattle.trials.specs.Forcing.{live, Conflict, Forcing, Maximal, Calm, Quiet}
-use Rattle.trials.specs.Courses.{FirstOpen, Complete, Course, fails, ends, tries, found, ended}
+use Rattle.trials.specs.Values.{flip, value, is_false, is_true, model_of}
+use Rattle.trials.specs.Forcing.{live, Forcing, Quiet}
+use Rattle.trials.specs.Courses.{Complete, Course, fails, ends, tries, found, ended}
 use Rattle.trials.specs.Trials.{Says}
 use Rattle.trials.specs.Exist.{open_at}
-use Rattle.trials.proofs.Below.{Below, below_set, flip_back, true_set, false_set, true_false}
+use Rattle.trials.proofs.Below.{Below, below_set, flip_back, true_set}
 use Rattle.trials.proofs.Confluence.{along, conflict_below, forcing_long, quiet_maximal, quiet_free}
 
 -- the literals of a clause are over the variables 1 to n

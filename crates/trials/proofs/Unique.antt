@@ -1,11 +1,10 @@
 -- All courses from one assignment make the same trials, find the same and end in the same assignment.
-use Rattle.std.proofs.Common.{◌≡◌, ℕ, ◌+◌, ◌<◌, ◌≤◌, Bool, true, false, cond, ◌||◌, ◌⊎◌, List, [], ◌∷◌, length, get_or, set, ℤ, Some, None, Option, sym, refl, ap, ◌∙◌, subst, inl, inr, arith}
+use Rattle.std.proofs.Common.{◌≡◌, ℕ, ◌+◌, true, false, cond, ◌||◌, List, get_or, set, ℤ, Some, None, sym, refl, ap, ◌∙◌, subst, inl, inr}
 use Rattle.std.proofs.lemmas.Bool.{cases_order}
 use Rattle.trials.specs.declared.value.Value.{Value}
 use Rattle.trials.specs.declared.value.Value.TheVariants.{Open, True, False}
 use Rattle.trials.specs.Forcing.{Conflict, Forcing, Quiet}
-use Rattle.trials.specs.Courses.{FirstOpen, Complete, Course, fails, ends, tries, found, tried, ended, OneCourse}
-use Rattle.trials.specs.Exist.{course}
+use Rattle.trials.specs.Courses.{FirstOpen, Complete, Course, fails, ends, tries, found, tried, ended}
 use Rattle.trials.proofs.Confluence.{same_end, same_conflict, quiet_maximal, quiet_free}
 
 pub first_same : (n : ℕ) (a : List Value) (v w : ℕ) → FirstOpen n a v → FirstOpen n a w → v ≡ w

@@ -1,5 +1,5 @@
 -- The course of a search over the variables 1 to n, and its trials.
-use Rattle.std.specs.Prelude.{◌≡◌, ℕ, ◌+◌, ◌<◌, ◌≤◌, Bool, true, false, cond, ◌||◌, List, [], ◌∷◌, length, get_or, ℤ, Some, None, Option, ◌≢◌, slice_index_or, slice_set}
+use Rattle.std.specs.Prelude.{◌≡◌, ℕ, ◌+◌, ◌<◌, ◌≤◌, Bool, true, false, cond, ◌||◌, List, get_or, ℤ, Some, None, Option, ◌≢◌, slice_index_or, slice_set}
 use Rattle.trials.specs.declared.value.Value.{Value}
 use Rattle.trials.specs.declared.value.Value.TheVariants.{Open, True, False}
 use Rattle.trials.specs.Forcing.{Forcing, Conflict, Quiet}

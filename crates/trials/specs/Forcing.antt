@@ -1,7 +1,7 @@
 -- Forcing: while a clause has all its literals false but one that is open, that one becomes true.
-use Rattle.std.specs.Prelude.{◌≡◌, ℕ, ◌<◌, Bool, true, false, cond, List, [], ◌∷◌, length, ℤ, ◌≢◌, slice_index_or}
+use Rattle.std.specs.Prelude.{◌≡◌, ℕ, ◌<◌, cond, List, [], ◌∷◌, length, ℤ, ◌≢◌, slice_index_or}
 use Rattle.trials.specs.declared.value.Value.{Value}
-use Rattle.trials.specs.declared.value.Value.TheVariants.{Open, True, False}
+use Rattle.trials.specs.declared.value.Value.TheVariants.{Open}
 use Rattle.trials.specs.Values.{value, is_false, holding}
 
 -- the literals of a clause that are not false, each as often as it stands there

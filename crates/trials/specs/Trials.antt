@@ -9,7 +9,7 @@ use Rattle.trials.specs.declared.value.Value.TheVariants.{Open}
 use Rattle.holder.specs.Widest.{widest}
 use Rattle.trials.specs.Values.{opens, model_of}
 use Rattle.trials.specs.Courses.{Course, tried, ended}
-use Rattle.trials.specs.Exist.{course, within_all, Within}
+use Rattle.trials.specs.Exist.{course, within_all}
 
 -- all variables open
 abbrev pub blank : List (List ℤ) → ℕ → List Value

@@ -1,5 +1,5 @@
 -- Assignments: a list with the value of variable n at place n. What is past its end is open.
-use Rattle.std.specs.Prelude.{ℕ, suc, Bool, true, false, cond, List, [], ◌∷◌, map, take, drop, ℤ, pos, negsuc, slice_index_or, slice_set}
+use Rattle.std.specs.Prelude.{ℕ, suc, Bool, true, false, List, [], ◌∷◌, map, take, drop, ℤ, pos, negsuc, slice_index_or, slice_set}
 use Rattle.trials.specs.declared.value.Value.{Value}
 use Rattle.trials.specs.declared.value.Value.TheVariants.{Open, True, False}
 use Rattle.holder.specs.Widest.{variable}

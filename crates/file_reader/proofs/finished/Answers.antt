@@ -1,9 +1,8 @@
-use Rattle.std.proofs.Common.{◌≡◌, length, vec_items, sym, ap, ◌∙◌, arith}
+use Rattle.std.proofs.Common.{length, vec_items, sym, ap, ◌∙◌, arith}
 use Rattle.std.proofs.lemmas.List.{length-map}
 use Rattle.std.proofs.lemmas.Bool.{cond-true, lt-ltb}
 use Rattle.problem.specs.Views.{goal_view}
 use Rattle.problem.specs.Tables.{view}
-use Rattle.file_format.specs.Reading.{whole}
 use Rattle.file_reader.specs.Whole.{ended_with}
 use Rattle.file_reader.proofs.finished.Goals as goal
 

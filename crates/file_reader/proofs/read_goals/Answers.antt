@@ -1,4 +1,4 @@
-use Rattle.std.proofs.Common.{◌≡◌, drop, Ok, sym, refl, ap, ◌∙◌, subst}
+use Rattle.std.proofs.Common.{drop, Ok, subst}
 use Rattle.std.proofs.lemmas.Result.{err_from_is_err_and}
 use Rattle.problem.specs.Tables.{goals_drafted}
 use Rattle.file_format.specs.Fields.{next_field}

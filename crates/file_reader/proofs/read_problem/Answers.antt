@@ -1,4 +1,4 @@
-use Rattle.std.proofs.Common.{◌≡◌, drop, sym, refl, ap, ◌∙◌, subst}
+use Rattle.std.proofs.Common.{drop, ◌∙◌}
 use Rattle.std.proofs.lemmas.Result.{err_from_is_err_and}
 use Rattle.file_format.specs.Fields.{next_field}
 use Rattle.file_reader.proofs.Opening.{facts_read, start_read, start_faulty}

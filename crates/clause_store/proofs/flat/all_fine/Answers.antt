@@ -1,4 +1,4 @@
-use Rattle.std.proofs.Common.{◌≡◌, true, false, get_or, pos, sym, ◌∙◌, w32, SFits, rules}
+use Rattle.std.proofs.Common.{◌≡◌, true, false, get_or, pos, sym, w32, SFits, rules}
 use Rattle.std.proofs.lemmas.Int.{to_z-of_z}
 use Rattle.runs.proofs.Scan.{next, done, and_on, and_miss}
 use Rattle.holder.specs.Clauses.{literal_fine, all_fine}

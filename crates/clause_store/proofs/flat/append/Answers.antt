@@ -1,4 +1,4 @@
-use Rattle.std.proofs.Common.{◌≡◌, ◌+◌, [], ◌∷◌, ◌++◌, get_or, take, pos, vec_items, vec_len, sym, refl, ap, ◌∙◌, subst, append_assoc, arith, w32, SFits, rules}
+use Rattle.std.proofs.Common.{[], ◌∷◌, ◌++◌, get_or, take, pos, vec_items, sym, ap, ◌∙◌, append_assoc, w32, SFits, rules}
 use Rattle.std.proofs.lemmas.Int.{to_z-of_z}
 use Rattle.std.proofs.lemmas.List.{take_more, take_all}
 use Rattle.clause_store.proofs.flat.append.Goals as goal

@@ -1,4 +1,4 @@
-use Rattle.std.proofs.Common.{◌≡◌, ◌+◌, ◌++◌, string_bytes, sym, ap, ◌∙◌, arith}
+use Rattle.std.proofs.Common.{◌+◌, ◌++◌, string_bytes, sym, ap, ◌∙◌, arith}
 use lib.Utf8.{encode}
 use Rattle.std.proofs.lemmas.Fmt.{decimal_digit}
 use Rattle.dimacs.proofs.Pushed.{once_pushed}

@@ -1,4 +1,4 @@
-use Rattle.std.proofs.Common.{◌≡◌, ◌≤◌, [], ◌++◌, length, get_or, pos, string_bytes, codes, sym, ap, ◌∙◌, arith, w32, SFits, rules}
+use Rattle.std.proofs.Common.{◌≤◌, [], ◌++◌, length, get_or, pos, string_bytes, codes, ap, ◌∙◌, arith, w32, SFits, rules}
 use Rattle.std.proofs.lemmas.Int.{to_z-of_z}
 use Rattle.dimacs.specs.Text.{literal_text, clause_text}
 use Rattle.dimacs.proofs.Pushed.{once_pushed}

@@ -1,4 +1,4 @@
-use Rattle.std.proofs.Common.{◌≡◌, ◌<◌, ◌≤◌, [], length, string_bytes, sym, ap, ◌∙◌, append-nil, arith}
+use Rattle.std.proofs.Common.{◌<◌, ◌≤◌, [], length, string_bytes, sym, ◌∙◌, append-nil, arith}
 use Rattle.runs.specs.Clauses.{joined}
 use Rattle.dimacs.specs.Text.{clause_text}
 use Rattle.dimacs.proofs.Coming.{one_more, all_written, clauses_step}

@@ -1,4 +1,4 @@
-use Rattle.std.proofs.Common.{◌≡◌, [], ◌++◌, drop, string_bytes}
+use Rattle.std.proofs.Common.{◌≡◌, ◌++◌, drop, string_bytes}
 use Rattle.runs.specs.Clauses.{joined}
 use Rattle.dimacs.specs.Text.{clause_text}
 use Rattle.dimacs.proofs.writing.write_clauses.Given as goal

@@ -1,7 +1,7 @@
-use Rattle.std.proofs.Common.{◌≡◌, ◌+◌, ◌<◌, ◌≤◌, [], ◌∷◌, length, get_or, drop, ℤ, pos, sym, refl, ap, ◌∙◌, subst, arith, w32, SFits, rules}
+use Rattle.std.proofs.Common.{◌≡◌, ◌+◌, ◌<◌, [], ◌∷◌, length, get_or, drop, ℤ, pos, sym, ap, ◌∙◌, arith, w32, SFits, rules}
 use Rattle.std.proofs.lemmas.Int.{to_z-of_z}
-use Rattle.trials.specs.declared.value.Value.TheVariants.{Open, True}
-use Rattle.trials.specs.Values.{value, is_false}
+use Rattle.trials.specs.declared.value.Value.TheVariants.{True}
+use Rattle.trials.specs.Values.{value}
 use Rattle.trials.specs.Forcing.{live}
 use Rattle.forcing.proofs.Judging.{live_stands, live_end, calm_true, calm_two}
 use Rattle.forcing.proofs.judge.judge.Goals as goal

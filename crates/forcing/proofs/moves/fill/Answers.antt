@@ -1,4 +1,4 @@
-use Rattle.std.proofs.Common.{◌≡◌, [], ◌∷◌, ◌++◌, ap, ◌∙◌, rules}
+use Rattle.std.proofs.Common.{[], ◌∷◌, ◌++◌, ap, ◌∙◌, rules}
 use Rattle.std.proofs.lemmas.List.{replicate_more}
 use Rattle.trials.specs.declared.value.Value.TheVariants.{Open}
 use Rattle.forcing.proofs.moves.fill.Goals as goal

@@ -1,4 +1,4 @@
-use Rattle.std.proofs.Common.{◌≡◌, ◌+◌, ◌-◌, ◌*◌, ◌<◌, ◌≤◌, ◌⊎◌, length, get_or, take, drop, sym, refl, ap, ◌∙◌, inl, inr, arith, length-drop, rules}
+use Rattle.std.proofs.Common.{◌+◌, ◌*◌, ◌<◌, ◌≤◌, ◌⊎◌, length, get_or, take, drop, refl, ap, ◌∙◌, inl, inr, arith, length-drop}
 use Rattle.problem_file.specs.Says.{field_refusal}
 use Rattle.problem_file.proofs.Headers.{cut_header, header, too_short, off_limits, found_at}
 use Rattle.problem_file.proofs.field.tagged_at.Goals as goal

@@ -1,4 +1,4 @@
-use Rattle.std.proofs.Common.{◌≡◌, Some, vec_items, sym, refl, ap, ◌∙◌}
+use Rattle.std.proofs.Common.{◌≡◌, Some, sym, ap, ◌∙◌}
 use Rattle.problem.specs.Faults.{axiom_shape}
 use Rattle.problem.specs.Tables.{axioms_drafted}
 use Rattle.problem_file.specs.Lists.{axiom_listed}

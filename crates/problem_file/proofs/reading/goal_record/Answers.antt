@@ -1,4 +1,4 @@
-use Rattle.std.proofs.Common.{◌≡◌, Some, vec_items, sym, refl, ap, ◌∙◌}
+use Rattle.std.proofs.Common.{◌≡◌, Some, sym, ap, ◌∙◌}
 use Rattle.runs.specs.Problems.{Goal}
 use Rattle.problem.specs.Faults.{goal_shape}
 use Rattle.problem.specs.Tables.{goals_drafted}

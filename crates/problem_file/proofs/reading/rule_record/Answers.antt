@@ -1,4 +1,4 @@
-use Rattle.std.proofs.Common.{◌≡◌, Some, vec_items, sym, refl, ap, ◌∙◌}
+use Rattle.std.proofs.Common.{◌≡◌, Some, sym, ap, ◌∙◌}
 use Rattle.runs.specs.Problems.{Rule}
 use Rattle.problem.specs.Faults.{rule_shape}
 use Rattle.problem.specs.Tables.{rules_drafted}

@@ -1,4 +1,4 @@
-use Rattle.std.proofs.Common.{◌≡◌, ℕ, ◌+◌, ◌-◌, ◌<◌, ◌≤◌, List, [], ◌∷◌, ◌++◌, length, get_or, set, ℤ, vec_items, sym, refl, ap, ◌∙◌, subst, arith, w32, SFits, rules}
+use Rattle.std.proofs.Common.{◌≡◌, ℕ, ◌+◌, ◌-◌, ◌<◌, ◌≤◌, List, [], ◌∷◌, ◌++◌, length, get_or, set, ℤ, sym, ap, ◌∙◌, subst, arith, w32, SFits, rules}
 use Rattle.std.proofs.lemmas.List.{length_push}
 use Rattle.std.proofs.lemmas.Int.{to_z-of_z}
 use Rattle.holder.specs.Widest.{variable}
@@ -7,14 +7,14 @@ use Rattle.trials.specs.declared.value.Value.{Value}
 use Rattle.trials.specs.declared.value.Value.TheVariants.{Open}
 use Rattle.trials.specs.Values.{value, sign}
 use Rattle.trials.specs.Exist.{Within}
-use Rattle.trials.specs.Forcing.{live, Forced, Conflict, Calm}
+use Rattle.trials.specs.Forcing.{live, Forced, Calm}
 use Rattle.forcing.specs.Boards.{assigned, trailed}
 use Rattle.forcing.proofs.Puts.{put_done}
 use Rattle.propagation.proofs.Steps.{Come, come_none, come_more, forced_open, forced_set, forced_in}
 use Rattle.propagation.specs.Chains.{Leads}
 use Rattle.propagation.specs.Made.{chains}
-use Rattle.propagation.specs.Waits.{Awake, NoneElse, against}
-use Rattle.propagation.proofs.Waiting.{awake_next, awake_end, awake_visited, awake_quiet, awake_put, forced_calm, against_within}
+use Rattle.propagation.specs.Waits.{Awake, against}
+use Rattle.propagation.proofs.Waiting.{awake_end, awake_visited, awake_quiet, awake_put, forced_calm}
 use Rattle.propagation.proofs.Turning.{turning}
 use Rattle.propagation.proofs.Comes.{come_trans}
 use Rattle.propagation.proofs.propagate.propagate.Goals as goal

@@ -1,4 +1,4 @@
-use Rattle.std.proofs.Common.{◌≡◌, ◌+◌, ◌-◌, ◌≤◌, length, vec_items}
+use Rattle.std.proofs.Common.{◌+◌, ◌-◌, ◌≤◌, length, vec_items}
 use Rattle.refusals.specs.Limits.{most_variables}
 use Rattle.clause_store.specs.Made.{stood_of}
 use Rattle.forcing.specs.Boards.{assigned, trailed}

@@ -1,4 +1,4 @@
-use Rattle.std.proofs.Common.{◌≡◌, ℕ, ◌+◌, ◌-◌, ◌<◌, ◌≤◌, List, [], ◌∷◌, ◌++◌, length, get_or, set, ℤ, sym, refl, ap, ◌∙◌, subst, arith, w32, SFits, rules, below_more}
+use Rattle.std.proofs.Common.{◌≡◌, ℕ, ◌+◌, ◌<◌, List, [], ◌∷◌, length, get_or, set, ℤ, sym, ap, ◌∙◌, subst, arith, w32, SFits, rules}
 use Rattle.std.proofs.lemmas.Int.{to_z-of_z}
 use Rattle.holder.specs.Widest.{variable}
 use Rattle.clause_store.specs.Made.{stood_of}
@@ -6,13 +6,12 @@ use Rattle.trials.specs.declared.value.Value.{Value}
 use Rattle.trials.specs.declared.value.Value.TheVariants.{Open}
 use Rattle.trials.specs.Values.{value, sign}
 use Rattle.trials.specs.Exist.{Within}
-use Rattle.trials.specs.Forcing.{live, Forced, Conflict, Calm}
+use Rattle.trials.specs.Forcing.{live, Forced, Calm}
 use Rattle.forcing.specs.Boards.{assigned, trailed}
 use Rattle.forcing.proofs.Backs.{back_within}
 use Rattle.forcing.proofs.Puts.{put_done}
 use Rattle.propagation.proofs.Steps.{Come, come_none, come_more, forced_open, forced_set, forced_in}
-use Rattle.propagation.specs.Waits.{Watched, calm}
-use Rattle.propagation.proofs.Waiting.{watched_put, forced_calm}
+use Rattle.propagation.proofs.Waiting.{forced_calm}
 use Rattle.propagation.proofs.Watching.{WatchedTo, watched_calm, watched_forced, watched_all}
 use Rattle.propagation.proofs.wake.wake.Goals as goal
 

@@ -1,4 +1,4 @@
-use Rattle.std.proofs.Common.{suc, ◌<◌, max, arith}
+use Rattle.std.proofs.Common.{suc, max, arith}
 use Rattle.holder.specs.Widest.{widest}
 use Rattle.trials.specs.Trials.{whole, outcome}
 use Rattle.trials.proofs.Models.{all_proper, says}

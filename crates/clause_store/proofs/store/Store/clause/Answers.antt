@@ -1,5 +1,5 @@
-use Rattle.std.proofs.Common.{◌≡◌, true, length, vec_items, vec_len, sym, refl, ap, ◌∙◌, subst}
-use Rattle.clause_store.specs.Flat.{cut_up, ordered}
+use Rattle.std.proofs.Common.{◌≡◌, true, length, vec_items, ◌∙◌, subst}
+use Rattle.clause_store.specs.Flat.{ordered}
 use Rattle.clause_store.proofs.store.Store.clause.Goals as goal
 
 pub clause_at-requires : goal.clause_at-requires

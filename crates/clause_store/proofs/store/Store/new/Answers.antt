@@ -1,4 +1,4 @@
-use Rattle.std.proofs.Common.{◌≡◌, [], vec_items, vec_len, refl, ap, ◌∙◌, arith}
+use Rattle.std.proofs.Common.{[], vec_items, vec_len, ap, ◌∙◌, arith}
 use Rattle.holder.specs.Clauses.{all_fine}
 use Rattle.clause_store.specs.Flat.{cut_up, ordered}
 use Rattle.clause_store.specs.Cuts.{ordered_start, cut_up_none}

@@ -1,6 +1,6 @@
-use Rattle.std.proofs.Common.{◌≡◌, true, length, vec_items, vec_len, sym, refl, ap, ◌∙◌, subst}
+use Rattle.std.proofs.Common.{◌≡◌, true, length, vec_items, sym, ap, ◌∙◌, subst}
 use Rattle.holder.specs.Widest.{widest_of}
-use Rattle.clause_store.specs.Flat.{cut_up, ordered}
+use Rattle.clause_store.specs.Flat.{ordered}
 use Rattle.clause_store.proofs.Named.{widest-cut_up}
 use Rattle.clause_store.proofs.store.Store.widest.Goals as goal
 

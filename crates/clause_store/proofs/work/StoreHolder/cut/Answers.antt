@@ -1,4 +1,4 @@
-use Rattle.std.proofs.Common.{◌≡◌, ◌<◌, ◌≤◌, true, length, take, vec_items, vec_len, sym, refl, ap, ◌∙◌, subst, arith, rules}
+use Rattle.std.proofs.Common.{◌≡◌, ◌<◌, ◌≤◌, true, length, take, vec_items, vec_len, refl, ap, ◌∙◌, subst, arith, rules}
 use Rattle.holder.specs.Clauses.{all_fine}
 use Rattle.clause_store.proofs.Named.{fine_take}
 use Rattle.clause_store.specs.Flat.{cut_up, ordered, end_of}

@@ -1,4 +1,4 @@
-use Rattle.std.proofs.Common.{◌≡◌, true, length, vec_items, vec_len, sym, refl, ap, ◌∙◌, subst, arith}
+use Rattle.std.proofs.Common.{◌≡◌, true, length, vec_items, sym, ◌∙◌, subst, arith}
 use Rattle.holder.specs.Clauses.{size}
 use Rattle.clause_store.specs.Flat.{cut_up, ordered}
 use Rattle.clause_store.specs.Cuts.{length-cut_up, size-cut_up}

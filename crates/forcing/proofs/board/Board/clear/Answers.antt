@@ -1,4 +1,4 @@
-use Rattle.std.proofs.Common.{◌≡◌, ◌+◌, ap, arith, rules}
+use Rattle.std.proofs.Common.{◌+◌, ap, arith, rules}
 use Rattle.trials.specs.Values.{opens}
 use Rattle.forcing.proofs.Backs.{opens_all}
 use Rattle.forcing.proofs.board.Board.clear.Goals as goal

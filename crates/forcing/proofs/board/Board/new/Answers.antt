@@ -1,4 +1,4 @@
-use Rattle.std.proofs.Common.{vec_items, ap, arith, rules}
+use Rattle.std.proofs.Common.{ap, arith}
 use Rattle.trials.specs.Values.{opens}
 use Rattle.forcing.proofs.Backs.{opens_none}
 use Rattle.forcing.proofs.board.Board.new.Goals as goal

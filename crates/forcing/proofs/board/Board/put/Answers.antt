@@ -1,5 +1,4 @@
-use Rattle.std.proofs.Common.{◌≡◌, suc, ◌<◌, true, length, set, vec_items, sym, refl, ap, ◌∙◌, subst, arith, rules}
-use Rattle.trials.specs.Values.{opens}
+use Rattle.std.proofs.Common.{◌≡◌, true, vec_items, sym, ap, ◌∙◌, arith, rules}
 use Rattle.trials.specs.Exist.{opens_set}
 use Rattle.forcing.specs.Boards.{settable}
 use Rattle.forcing.proofs.Puts.{settable_parts}

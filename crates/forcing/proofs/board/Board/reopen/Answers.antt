@@ -1,7 +1,6 @@
-use Rattle.std.proofs.Common.{◌≡◌, ◌-◌, ◌<◌, ◌≤◌, length, get_or, take, set, vec_items, vec_len, sym, ap, ◌∙◌, arith, rules}
+use Rattle.std.proofs.Common.{◌≡◌, ◌-◌, ◌<◌, ◌≤◌, length, get_or, take, set, vec_items, sym, ap, ◌∙◌, arith, rules}
 use Rattle.std.proofs.lemmas.List.{set_past, get_or_read}
 use Rattle.trials.specs.declared.value.Value.TheVariants.{Open}
-use Rattle.trials.specs.Values.{opens}
 use Rattle.forcing.proofs.Backs.{opens_reset}
 use Rattle.forcing.proofs.board.Board.reopen.Goals as goal
 

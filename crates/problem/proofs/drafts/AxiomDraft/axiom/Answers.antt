@@ -1,9 +1,9 @@
-use Rattle.std.proofs.Common.{◌≡◌, true, [], length, None, vec_items, sym, refl, ap, ◌∙◌, subst, arith}
+use Rattle.std.proofs.Common.{◌≡◌, true, [], None, vec_items, sym, ap, subst, arith}
 use Rattle.std.proofs.lemmas.List.{length-map}
 use Rattle.runs.specs.Problems as runs
 use Rattle.problem.specs.Lists.{below}
 use Rattle.problem.specs.Views.{axiom_view, axiom_in}
-use Rattle.problem.specs.Faults.{axiom_shape, axiom_law, axiom_fault}
+use Rattle.problem.specs.Faults.{axiom_shape, axiom_fault}
 use Rattle.problem.specs.Tables.{axioms_drafted}
 use Rattle.problem.proofs.Rows.{says_put, every_put, axiom_tests, first_fine, unless_fine}
 use Rattle.problem.proofs.drafts.AxiomDraft.axiom.Goals as goal

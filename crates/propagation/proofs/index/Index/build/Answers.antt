@@ -1,4 +1,4 @@
-use Rattle.std.proofs.Common.{◌+◌, ◌<◌, ◌≤◌, arith}
+use Rattle.std.proofs.Common.{◌+◌, arith}
 use Rattle.clause_store.specs.Made.{stood_of}
 use Rattle.trials.specs.Exist.{within_all}
 use Rattle.propagation.proofs.index.Index.build.Goals as goal

@@ -1,8 +1,7 @@
-use Rattle.std.proofs.Common.{◌≡◌, ℕ, ◌+◌, ◌<◌, ◌≤◌, List, [], ◌∷◌, ◌++◌, length, get_or, take, ℤ, vec_items, sym, refl, ap, ◌∙◌, subst, arith, length-take, rules}
+use Rattle.std.proofs.Common.{◌≡◌, ℕ, ◌+◌, ◌<◌, List, [], length, get_or, take, ℤ, vec_items, sym, refl, ap, ◌∙◌, subst, arith, length-take}
 use Rattle.std.proofs.lemmas.List.{take_more, take_all}
-use Rattle.holder.specs.Clauses.{size}
 use Rattle.clause_store.specs.Made.{stood_of}
-use Rattle.trials.specs.Exist.{Within, WithinClause}
+use Rattle.trials.specs.Exist.{WithinClause}
 use Rattle.propagation.specs.Chains.{Chains, Good, Indexes, added_clause, added_all, no_chains}
 use Rattle.propagation.specs.Made.{chains}
 use Rattle.propagation.proofs.Chained.{all_gains, all_push, all_none, all_long, all_within_take, size-take, none_good, all_indexes}
