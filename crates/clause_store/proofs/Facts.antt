@@ -7,7 +7,8 @@ use Rattle.holder.specs.Answers.{taken, was_cut}
 use Rattle.holder.specs.declared.size.Size.{Size}
 use Rattle.refusals.specs.declared.refusal.Refusal.TheVariants.{BadClause, CutBeyond, NoRoom}
 use Rattle.clause_store.specs.Flat.{cut_up, ordered, end_of}
-use Rattle.clause_store.specs.Cuts.{length-cut_up, size-cut_up, cut_up_at, end_step}
+use Rattle.clause_store.specs.Sizes.{length-cut_up, size-cut_up}
+use Rattle.clause_store.proofs.Cuts.{cut_up_at, end_step}
 
 pub size-push : (cs : List (List ℤ)) (c : List ℤ) → size (cs ++ c ∷ []) ≡ size cs + length c
 size-push [] c = omega arith

@@ -6,7 +6,7 @@ ghost use Rattle.holder.specs.Clauses as clauses;
 ghost use Rattle.holder.specs.Widest as wide;
 ghost use Rattle.clause_store.specs.Made.{stood_of, no_rest};
 ghost use Rattle.clause_store.specs.Flat.{ordered};
-ghost use Rattle.clause_store.specs.Cuts.{length-cut_up, size-cut_up};
+ghost use Rattle.clause_store.specs.Sizes.{length-cut_up, size-cut_up};
 
 use crate::flat;
 use crate::store::Store;

@@ -3,8 +3,7 @@ ghost use Rattle.std.specs.Prelude.{◌≡◌, true, List, [], ◌∷◌, ◌++�
 ghost use Rattle.holder.specs.Clauses.{proper};
 ghost use Rattle.laying.specs.Laid.{Laid};
 ghost use Rattle.laying.specs.Metered.{Metered};
-ghost use Rattle.laying.specs.Grown.{laid_none, laid_then, metered_then};
-ghost use Rattle.std.proofs.Common.{rules, arith};
+ghost use Rattle.laying.specs.Grown.{laid_none, laid_then, metered_none, metered_then};
 
 use crate::meter::Meter;
 use holder::held::Holder;
@@ -37,7 +36,7 @@ impl<H: Holder> Taker for H {
 impl Taker for Meter {
     ghost grew = { λ s cs t. Metered s cs t };
 
-    ghost none = { first_of (Prim.search rules, Prim.grind (arith, Self.row.coded.inj)) };
+    ghost none = { metered_none };
 
     ghost more = { λ s t u a b x y. metered_then s t u a b x y };
 

@@ -1,7 +1,7 @@
 use Rattle.std.proofs.Common.{◌≡◌, ◌<◌, [], length, get_or, sym, arith, rules}
 use Rattle.std.proofs.lemmas.List.{get_or_past, get_or_default}
 use Rattle.clause_store.specs.Flat.{cut_up}
-use Rattle.clause_store.specs.Cuts.{length-cut_up}
+use Rattle.clause_store.specs.Sizes.{length-cut_up}
 use Rattle.clause_store.proofs.Facts.{ends_up, clause_is}
 use Rattle.clause_store.proofs.flat.clause_at.Goals as goal
 

@@ -1,4 +1,4 @@
-use Rattle.clause_store.specs.Cuts.{end_of_none, end_of_some}
+use Rattle.clause_store.proofs.Cuts.{end_of_none, end_of_some}
 use Rattle.clause_store.proofs.flat.end_of.Goals as goal
 
 pub returns-then-n-eq0 : goal.returns-then-n-eq0

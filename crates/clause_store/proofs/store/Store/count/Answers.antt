@@ -1,5 +1,5 @@
 use Rattle.std.proofs.Common.{vec_items, sym, ◌∙◌}
-use Rattle.clause_store.specs.Cuts.{length-cut_up}
+use Rattle.clause_store.specs.Sizes.{length-cut_up}
 use Rattle.clause_store.proofs.store.Store.count.Goals as goal
 
 pub returns : goal.returns

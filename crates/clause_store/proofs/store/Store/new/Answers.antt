@@ -1,7 +1,7 @@
 use Rattle.std.proofs.Common.{[], vec_items, vec_len, ap, ◌∙◌, arith}
 use Rattle.holder.specs.Clauses.{all_fine}
 use Rattle.clause_store.specs.Flat.{cut_up, ordered}
-use Rattle.clause_store.specs.Cuts.{ordered_start, cut_up_none}
+use Rattle.clause_store.proofs.Cuts.{ordered_start, cut_up_none}
 use Rattle.clause_store.proofs.store.Store.new.Goals as goal
 
 pub invariant_of-result : goal.invariant_of-result

@@ -1,6 +1,6 @@
 use Rattle.std.proofs.Common.{◌≡◌, true, length, vec_items, subst, arith}
 use Rattle.clause_store.specs.Flat.{ordered}
-use Rattle.clause_store.specs.Cuts.{size-cut_up}
+use Rattle.clause_store.specs.Sizes.{size-cut_up}
 use Rattle.clause_store.proofs.store.Store.size.Goals as goal
 
 pub returns : goal.returns

@@ -3,7 +3,7 @@ use Rattle.holder.specs.Clauses.{all_fine}
 use Rattle.clause_store.proofs.Named.{fine_take}
 use Rattle.clause_store.specs.Flat.{cut_up, ordered, end_of}
 use Rattle.clause_store.specs.Made.{no_rest}
-use Rattle.clause_store.specs.Cuts.{ordered_take, cut_up-take, end_within}
+use Rattle.clause_store.proofs.Cuts.{ordered_take, cut_up-take, end_within}
 use Rattle.clause_store.proofs.Facts.{cut_past, cut_fine}
 use Rattle.clause_store.proofs.work.StoreHolder.cut.Goals as goal
 

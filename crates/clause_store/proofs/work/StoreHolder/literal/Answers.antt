@@ -1,7 +1,7 @@
 use Rattle.std.proofs.Common.{◌≡◌, ◌<◌, true, length, vec_items, refl, ap, ◌∙◌, subst, arith, w32, SFits, rules}
 use Rattle.std.proofs.lemmas.Int.{to_z-of_z}
 use Rattle.clause_store.specs.Flat.{ordered, end_of}
-use Rattle.clause_store.specs.Cuts.{length-cut_up}
+use Rattle.clause_store.specs.Sizes.{length-cut_up}
 use Rattle.clause_store.proofs.Facts.{ends_up, clause_long, literal_is}
 use Rattle.clause_store.proofs.work.StoreHolder.literal.Goals as goal
 

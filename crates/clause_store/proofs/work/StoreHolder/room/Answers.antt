@@ -1,7 +1,7 @@
 use Rattle.std.proofs.Common.{◌≡◌, true, length, vec_items, sym, ◌∙◌, subst, arith}
 use Rattle.holder.specs.Clauses.{size}
 use Rattle.clause_store.specs.Flat.{cut_up, ordered}
-use Rattle.clause_store.specs.Cuts.{length-cut_up, size-cut_up}
+use Rattle.clause_store.specs.Sizes.{length-cut_up, size-cut_up}
 use Rattle.clause_store.proofs.work.StoreHolder.room.Goals as goal
 
 pub returns : goal.returns

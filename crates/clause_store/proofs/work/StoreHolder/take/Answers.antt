@@ -3,7 +3,7 @@ use Rattle.holder.specs.Clauses.{all_fine}
 use Rattle.clause_store.proofs.Named.{fine_push}
 use Rattle.clause_store.specs.Flat.{cut_up, ordered}
 use Rattle.clause_store.specs.Made.{no_rest}
-use Rattle.clause_store.specs.Cuts.{ordered_push, cut_up-push}
+use Rattle.clause_store.proofs.Cuts.{ordered_push, cut_up-push}
 use Rattle.clause_store.proofs.Facts.{take_wrong, take_full, take_long, take_fine}
 use Rattle.clause_store.proofs.work.StoreHolder.take.Goals as goal
 

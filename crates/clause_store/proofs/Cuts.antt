@@ -1,16 +1,11 @@
 -- Clauses that lie one after another: one more, fewer, and one of them.
-use Rattle.std.specs.Prelude.{◌≡◌, ℕ, zero, suc, ◌+◌, ◌-◌, ◌<◌, ◌≤◌, true, List, [], ◌∷◌, ◌++◌, length, take, drop, ℤ, ◌≢◌, slice_index, slice_index_or, slice_range, refl}
-use Rattle.std.proofs.Common.{sym, ap, subst, ◌∙◌, arith, length-take, length-drop}
+use Rattle.std.specs.Prelude.{◌≡◌, ℕ, zero, suc, ◌+◌, ◌-◌, ◌<◌, ◌≤◌, true, List, [], ◌∷◌, ◌++◌, length, take, drop, ℤ, ◌≢◌, slice_index, slice_index_or, refl}
+use Rattle.std.proofs.Common.{sym, ap, subst, ◌∙◌, arith, length-drop}
 use Rattle.std.proofs.lemmas.Bool.{and_parts, and_from, le-leb, leb-true, eqb-true, eq-eqb}
 use Rattle.std.proofs.lemmas.List.{take-append-le, drop-append-le, drop_at, take_all, take-take}
 use Rattle.std.proofs.lemmas.Slice.{between_is}
-use Rattle.holder.specs.Clauses.{size}
 use Rattle.clause_store.specs.Flat.{cut_up, ordered, end_of}
-
-pub ordered_below : (s : ℕ) (es : List ℕ) (n : ℕ) → ordered s es n ≡ true → s ≤ n
-unfolding ordered
-ordered_below s [] n h = let e = eqb-true s n h in omega arith
-ordered_below s (e ∷ es) n h = let t = and_parts _ _ h in let a = leb-true s e t.0 in let b = ordered_below e es n t.1 in omega arith
+use Rattle.clause_store.specs.Sizes.{ordered_below}
 
 pub ordered_head : (s e : ℕ) (es : List ℕ) (n : ℕ) → ordered s (e ∷ es) n ≡ true → (s ≤ e) × (e ≤ n) × (ordered e es n ≡ true)
 unfolding ordered
@@ -24,22 +19,6 @@ pub ordered_push : (s : ℕ) (es : List ℕ) (n m : ℕ) → ordered s es n ≡ 
 unfolding ordered
 ordered_push s [] n m h l = let e = eqb-true s n h in and_from _ _ (le-leb s m (omega arith)) (eq-eqb m m refl)
 ordered_push s (e ∷ es) n m h l = let t = and_parts _ _ h in and_from _ _ t.0 (ordered_push e es n m t.1 l)
-
-pub length-cut_up : (s : ℕ) (es : List ℕ) (xs : List ℤ) → length (cut_up s es xs) ≡ length es
-unfolding cut_up
-length-cut_up s [] xs = refl
-length-cut_up s (e ∷ es) xs = ap suc (length-cut_up e es xs)
-
-pub size-cut_up : (s : ℕ) (es : List ℕ) (xs : List ℤ) → ordered s es (length xs) ≡ true → size (cut_up s es xs) + s ≡ length xs
-unfolding cut_up ordered
-size-cut_up s [] xs h = let e = eqb-true s (length xs) h in omega arith
-size-cut_up s (e ∷ es) xs h =
-    let t = and_parts _ _ h in
-    let a = leb-true s e t.0 in
-    let b = ordered_below e es (length xs) t.1 in
-    let r = size-cut_up e es xs t.1 in
-    let l : length (slice_range xs s e) ≡ e - s = simp (length-take, length-drop) (omega arith) in
-    omega arith
 
 -- one clause more
 pub cut_up-push : (s : ℕ) (es : List ℕ) (xs c : List ℤ) (n : ℕ) → ordered s es (length xs) ≡ true → n ≡ length xs + length c → cut_up s (es ++ n ∷ []) (xs ++ c) ≡ cut_up s es xs ++ c ∷ []
