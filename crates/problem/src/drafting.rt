@@ -51,7 +51,7 @@ impl Rule {
     ) -> Result<Rule, Refusal>
         requires rising { (rises 0 needed.now && (rises 0 forbidden.now && rises 0 left.now)) ≡ true }
         requires few { (short needed.now && (short forbidden.now && short left.now)) ≡ true }
-        ensures { MatchResult result (λ x. rule_view x ≡ record { needed = needed.entry.now; forbidden = forbidden.now; left = left.now }) (λ e. e ≡ OutOfMemory) }
+        ensures { MatchResult result (λ x. rule_view x ≡ record { needed = needed.now; forbidden = forbidden.now; left = left.now }) (λ e. e ≡ OutOfMemory) }
     {
         let needed = FactList::copied(heap, needed)?;
         let forbidden = FactList::copied(heap, forbidden)?;
@@ -69,7 +69,7 @@ impl Goal {
         requires rising { (rises 0 wanted.now && rises 0 unwanted.now) ≡ true }
         requires few { (short wanted.now && short unwanted.now) ≡ true }
         requires some { 0 < length wanted.now + length unwanted.now }
-        ensures { MatchResult result (λ x. goal_view x ≡ record { wanted = wanted.entry.now; unwanted = unwanted.now }) (λ e. e ≡ OutOfMemory) }
+        ensures { MatchResult result (λ x. goal_view x ≡ record { wanted = wanted.now; unwanted = unwanted.now }) (λ e. e ≡ OutOfMemory) }
     {
         let wanted = FactList::copied(heap, wanted)?;
         let unwanted = FactList::copied(heap, unwanted)?;
@@ -97,7 +97,7 @@ impl AxiomDraft {
 
     // What is wrong with an axiom by itself and by the table's room, in the order of the numbers.
     pub fn judge_axiom(&self, premises: &[u16], conclusion: u16) -> Option<Refusal>
-        ensures { result ≡ axiom_shape (axioms_drafted self.now) (record { premises = premises.entry.now; conclusion = conclusion }) }
+        ensures { result ≡ axiom_shape (axioms_drafted self.now) (record { premises = premises.now; conclusion = conclusion }) }
     {
         judge_shape(
             axiom_in_range(self.facts, premises, conclusion),
@@ -109,7 +109,7 @@ impl AxiomDraft {
 
     // One axiom more.
     pub fn axiom(&mut self, heap: Global, premises: &[u16], conclusion: u16) -> Result<(), Refusal>
-        ensures { Says (axiom_fault (axioms_drafted self.old) (record { premises = premises.entry.now; conclusion = conclusion })) (with_axiom (axioms_drafted self.old) (record { premises = premises.entry.now; conclusion = conclusion })) (axioms_drafted self.old) (axioms_drafted self.new) result }
+        ensures { Says (axiom_fault (axioms_drafted self.old) (record { premises = premises.now; conclusion = conclusion })) (with_axiom (axioms_drafted self.old) (record { premises = premises.now; conclusion = conclusion })) (axioms_drafted self.old) (axioms_drafted self.new) result }
     {
         if let Some(refusal) = self.judge_axiom(premises, conclusion) {
             return Err(refusal);
@@ -143,7 +143,7 @@ impl AxiomDraft {
 impl RuleDraft {
     // What is wrong with a rule by itself and by the table's room, in the order of the numbers.
     pub fn judge_rule(&self, needed: &[u16], forbidden: &[u16], left: &[u16]) -> Option<Refusal>
-        ensures { result ≡ rule_shape (rules_drafted self.now) (record { needed = needed.entry.now; forbidden = forbidden.now; left = left.now }) }
+        ensures { result ≡ rule_shape (rules_drafted self.now) (record { needed = needed.now; forbidden = forbidden.now; left = left.now }) }
     {
         judge_shape(
             rule_in_range(self.ground.facts, needed, forbidden, left),
@@ -161,7 +161,7 @@ impl RuleDraft {
         forbidden: &[u16],
         left: &[u16],
     ) -> Result<(), Refusal>
-        ensures { Says (rule_fault (rules_drafted self.old) (record { needed = needed.entry.now; forbidden = forbidden.now; left = left.now })) (with_rule (rules_drafted self.old) (record { needed = needed.entry.now; forbidden = forbidden.now; left = left.now })) (rules_drafted self.old) (rules_drafted self.new) result }
+        ensures { Says (rule_fault (rules_drafted self.old) (record { needed = needed.now; forbidden = forbidden.now; left = left.now })) (with_rule (rules_drafted self.old) (record { needed = needed.now; forbidden = forbidden.now; left = left.now })) (rules_drafted self.old) (rules_drafted self.new) result }
     {
         if let Some(refusal) = self.judge_rule(needed, forbidden, left) {
             return Err(refusal);
@@ -192,7 +192,7 @@ impl RuleDraft {
 impl GoalDraft {
     // What is wrong with a goal by itself and by the table's room, in the order of the numbers.
     pub fn judge_goal(&self, wanted: &[u16], unwanted: &[u16]) -> Option<Refusal>
-        ensures { result ≡ goal_shape (goals_drafted self.now) (record { wanted = wanted.entry.now; unwanted = unwanted.now }) }
+        ensures { result ≡ goal_shape (goals_drafted self.now) (record { wanted = wanted.now; unwanted = unwanted.now }) }
     {
         judge_shape(
             goal_in_range(self.ground.ground.facts, wanted, unwanted),
@@ -204,7 +204,7 @@ impl GoalDraft {
 
     // One goal more.
     pub fn goal(&mut self, heap: Global, wanted: &[u16], unwanted: &[u16]) -> Result<(), Refusal>
-        ensures { Says (goal_fault (goals_drafted self.old) (record { wanted = wanted.entry.now; unwanted = unwanted.now })) (with_goal (goals_drafted self.old) (record { wanted = wanted.entry.now; unwanted = unwanted.now })) (goals_drafted self.old) (goals_drafted self.new) result }
+        ensures { Says (goal_fault (goals_drafted self.old) (record { wanted = wanted.now; unwanted = unwanted.now })) (with_goal (goals_drafted self.old) (record { wanted = wanted.now; unwanted = unwanted.now })) (goals_drafted self.old) (goals_drafted self.new) result }
     {
         if let Some(refusal) = self.judge_goal(wanted, unwanted) {
             return Err(refusal);

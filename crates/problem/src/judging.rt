@@ -81,19 +81,19 @@ pub(crate) fn both_in_order(first: &[u16], second: &[u16]) -> bool
 }
 
 pub(crate) fn axiom_in_range(facts: u16, premises: &[u16], conclusion: u16) -> bool
-    ensures { result ≡ axiom_in facts (record { premises = premises.entry.now; conclusion = conclusion }) }
+    ensures { result ≡ axiom_in facts (record { premises = premises.now; conclusion = conclusion }) }
 {
     all_facts(premises, facts) && is_fact(conclusion, facts)
 }
 
 pub(crate) fn rule_in_range(facts: u16, needed: &[u16], forbidden: &[u16], left: &[u16]) -> bool
-    ensures { result ≡ rule_in facts (record { needed = needed.entry.now; forbidden = forbidden.now; left = left.now }) }
+    ensures { result ≡ rule_in facts (record { needed = needed.now; forbidden = forbidden.now; left = left.now }) }
 {
     all_facts(needed, facts) && all_facts(forbidden, facts) && all_facts(left, facts)
 }
 
 pub(crate) fn goal_in_range(facts: u16, wanted: &[u16], unwanted: &[u16]) -> bool
-    ensures { result ≡ goal_in facts (record { wanted = wanted.entry.now; unwanted = unwanted.now }) }
+    ensures { result ≡ goal_in facts (record { wanted = wanted.now; unwanted = unwanted.now }) }
 {
     all_facts(wanted, facts) && all_facts(unwanted, facts)
 }
