@@ -32,17 +32,17 @@ module _ (low high t : ℕ) (h l : ℕ) (bs : List ℕ) where
   cut_tagged true true u v rest p q e =
       let fits = leb-true n (length bs) p in
       let w = and_parts (leb low t) (leb t high) q in
-      let same-t : t ≡ u = cc in
-      let same-v : take n bs ≡ v = cc in
-      let same-r : drop n bs ≡ rest = cc in
-      let long : length v ≡ n = ap length (sym same-v) ∙ length-take-le n bs fits in
+      let same_t : t ≡ u = cc in
+      let same_v : take n bs ≡ v = cc in
+      let same_r : drop n bs ≡ rest = cc in
+      let long : length v ≡ n = ap length (sym same_v) ∙ length-take-le n bs fits in
       let a = leb-true low t w.0 in
       let b = leb-true t high w.1 in
       record {
         above = omega arith;
         below = omega arith;
         long = omega arith;
-        rest = sym same-r ∙ ap (λ k. drop k bs) (sym long) ∙ three (length v);
+        rest = sym same_r ∙ ap (λ k. drop k bs) (sym long) ∙ three (length v);
         again = λ x y p q. cond-true _ _ _ (le-leb n (length bs) fits) ∙ cond-true _ _ _ (and_from _ _ (le-leb x t (omega arith)) (le-leb t y (omega arith))) ∙ cc;
       }
     where
@@ -100,14 +100,14 @@ module _ (t : ℕ) (p q : Problem) (at : ℕ) (bs : List ℕ) where
       by_tag false u w cs f g e = clash (cc)
       by_tag true u w cs f g e =
           let x = taken_goes w v (take_value t p w) e in
-          let same-u = eqb-true u t g in
+          let same_u = eqb-true u t g in
           let c = cut_at t 5 u w cs bs f in
-          let grows : take_value u p w ≡ grown q = ap (λ i. take_value i p w) same-u ∙ x.0 in
+          let grows : take_value u p w ≡ grown q = ap (λ i. take_value i p w) same_u ∙ x.0 in
           let here : all_fields t p at bs ≡ fields (length bs) u q (at + 3 + length w) cs = ap (after (fields (length bs)) p at) f ∙ ap (go_on (λ z. fields (length bs) u z (at + 3 + length w) cs) at) grows in
           let l = ap length c.rest ∙ length-drop (3 + length w) bs in
           let long = c.long in
           let there = steady (length bs) (suc (length cs)) u q (at + 3 + length w) cs (omega arith) (omega arith) in
-          let moved : fields (suc (length cs)) u q (at + 3 + length w) cs ≡ all_fields t q (at + 3 + length w) (drop (3 + length w) bs) = ap (λ i. all_fields i q (at + 3 + length w) cs) same-u ∙ ap (all_fields t q (at + 3 + length w)) c.rest in
+          let moved : fields (suc (length cs)) u q (at + 3 + length w) cs ≡ all_fields t q (at + 3 + length w) (drop (3 + length w) bs) = ap (λ i. all_fields i q (at + 3 + length w) cs) same_u ∙ ap (all_fields t q (at + 3 + length w)) c.rest in
           subst (λ z. (all_fields t p at bs ≡ all_fields t q (at + 3 + length z) (drop (3 + length z) bs)) × (3 + length z ≤ length bs)) x.1 (here ∙ there ∙ moved, long)
 
       by_found : (found : Found) → next_field t 5 bs ≡ found → next_record t p found ≡ goes (q, v) → (all_fields t p at bs ≡ all_fields t q (at + 3 + length v) (drop (3 + length v) bs)) × (3 + length v ≤ length bs)

@@ -7,7 +7,15 @@ use Rattle.clause_store.proofs.store.Store.new.Goals as goal
 pub invariant_of-result : goal.invariant_of-result
 invariant_of-result c =
     let e = c.in_ok-ends.ensures in
-    let l = c.in_ok-kept.ensures in record { clause_room = e.capacity; literal_room = l.capacity; few_clauses = omega (arith, e.len); few_literals = omega (arith, l.len); in_order = ap (λ x. ordered 0 x (vec_len c.in_ok-kept.kept)) e.items ∙ ap (ordered 0 []) l.len ∙ ordered_start; fine = ap all_fine l.items }
+    let l = c.in_ok-kept.ensures in
+    record {
+      clause_room = e.capacity;
+      literal_room = l.capacity;
+      few_clauses = omega (arith, e.len);
+      few_literals = omega (arith, l.len);
+      in_order = ap (λ x. ordered 0 x (vec_len c.in_ok-kept.kept)) e.items ∙ ap (ordered 0 []) l.len ∙ ordered_start;
+      fine = ap all_fine l.items;
+    }
 
 pub returns : goal.returns
 returns c =

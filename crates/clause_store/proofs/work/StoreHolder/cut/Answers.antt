@@ -21,7 +21,15 @@ invariant_of-self c =
     let l : n ≤ length es = omega (arith, s.ends.ok.0, c.len.ensures) in
     let r : c.end_of-end.result ≡ end_of 0 n es = c.end_of-end.ensures ∙ ap (end_of 0 n) c.deref.ensures.value in
     let w = end_within 0 n es (vec_len s.literals) s.in_order in
-    let m : vec_len c.truncate-2.new.self ≡ end_of 0 n es = omega (arith, c.truncate-2.ensures.len) in record { clause_room = search rules; literal_room = search rules; few_clauses = search rules; few_literals = search rules; in_order = ap (λ x. ordered 0 x (vec_len c.truncate-2.new.self)) c.truncate.ensures.items ∙ ap (ordered 0 (take n es)) m ∙ ordered_take 0 n es (vec_len s.literals) l s.in_order; fine = ap all_fine c.truncate-2.ensures.items ∙ fine_take c.end_of-end.result (vec_items s.literals) s.fine }
+    let m : vec_len c.truncate-2.new.self ≡ end_of 0 n es = omega (arith, c.truncate-2.ensures.len) in
+    record {
+      clause_room = search rules;
+      literal_room = search rules;
+      few_clauses = search rules;
+      few_literals = search rules;
+      in_order = ap (λ x. ordered 0 x (vec_len c.truncate-2.new.self)) c.truncate.ensures.items ∙ ap (ordered 0 (take n es)) m ∙ ordered_take 0 n es (vec_len s.literals) l s.in_order;
+      fine = ap all_fine c.truncate-2.ensures.items ∙ fine_take c.end_of-end.result (vec_items s.literals) s.fine;
+    }
 
 pub returns : goal.returns
 returns c _ =

@@ -50,7 +50,15 @@ invariant_of-self-2 c =
     let s = c.args.self.now in
     let es = vec_items s.ends in
     let long = vec_len c.append.new.literals in
-    let l : vec_len s.literals ≤ long = omega (arith, c.append.ensures.len) in record { clause_room = search rules; literal_room = search rules; few_clauses = search rules; few_literals = search rules; in_order = ap (λ x. ordered 0 x long) c.push_reserved.ensures.items ∙ ap (λ z. ordered 0 (es ++ z ∷ []) long) c.len-3.ensures ∙ ordered_push 0 es (vec_len s.literals) long s.in_order l; fine = ap all_fine c.append.ensures.items ∙ fine_push (vec_items s.literals) c.args.clause.now s.fine (sym c.if-not-is_proper.ensures) }
+    let l : vec_len s.literals ≤ long = omega (arith, c.append.ensures.len) in
+    record {
+      clause_room = search rules;
+      literal_room = search rules;
+      few_clauses = search rules;
+      few_literals = search rules;
+      in_order = ap (λ x. ordered 0 x long) c.push_reserved.ensures.items ∙ ap (λ z. ordered 0 (es ++ z ∷ []) long) c.len-3.ensures ∙ ordered_push 0 es (vec_len s.literals) long s.in_order l;
+      fine = ap all_fine c.append.ensures.items ∙ fine_push (vec_items s.literals) c.args.clause.now s.fine (sym c.if-not-is_proper.ensures);
+    }
 
 pub returns-then-not-is_proper : goal.returns-then-not-is_proper
 returns-then-not-is_proper c _ =

@@ -16,7 +16,10 @@ invariant_of-self c =
     let h : s.used < length s.places = omega arith in
     let f : SFits w32 n = search rules in
     let e = written s.places s.used n (to_z w32 (of_z w32 n)) h (to_z-of_z w32 n f) in
-    record { room = omega arith; fine = subst (λ y. all_fine y ≡ true) (sym e) (fine_push (take s.used s.places) n s.fine c.number.ensures.fine) }
+    record {
+      room = omega arith;
+      fine = subst (λ y. all_fine y ≡ true) (sym e) (fine_push (take s.used s.places) n s.fine c.number.ensures.fine);
+    }
 
 pub returns-then-self-lt-LONGEST_CLAUSE : goal.returns-then-self-lt-LONGEST_CLAUSE
 returns-then-self-lt-LONGEST_CLAUSE c =

@@ -16,7 +16,12 @@ invariant_of-self c =
     let fine = axiom_tests (axioms_drafted d) a none in
     let count = length-map (vec_items d.axioms) axiom_view in
     let inside = subst (λ ps. axiom_in d.facts (record { premises = ps; conclusion = c.args.conclusion }) ≡ true) (sym c.in-Ok.ensures) fine.0 in
-    record { facts_in = d.facts_in; start_in = d.start_in; few = omega (arith, c.put.ensures.len, d.axioms.ok.0, fine.3); inside = every_put axiom_view c.put.ensures.put (axiom_in d.facts) d.inside inside }
+    record {
+      facts_in = d.facts_in;
+      start_in = d.start_in;
+      few = omega (arith, c.put.ensures.len, d.axioms.ok.0, fine.3);
+      inside = every_put axiom_view c.put.ensures.put (axiom_in d.facts) d.inside inside;
+    }
 
 pub returns-in-Ok : goal.returns-in-Ok
 returns-in-Ok c =

@@ -16,7 +16,10 @@ invariant_of-self c =
     let fine = goal_tests (goals_drafted d) g none in
     let count = length-map (vec_items d.goals) goal_view in
     let inside = subst (λ y. goal_in n y ≡ true) (sym c.in-Ok.ensures) fine.0 in
-    record { few = omega (arith, c.put.ensures.len, d.goals.ok.0, fine.3); inside = every_put goal_view c.put.ensures.put (goal_in n) d.inside inside }
+    record {
+      few = omega (arith, c.put.ensures.len, d.goals.ok.0, fine.3);
+      inside = every_put goal_view c.put.ensures.put (goal_in n) d.inside inside;
+    }
 
 pub returns-in-Ok : goal.returns-in-Ok
 returns-in-Ok c =

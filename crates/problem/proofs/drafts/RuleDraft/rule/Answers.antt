@@ -23,7 +23,11 @@ invariant_of-self c =
     let is = c.in-Ok.ensures in
     let inside = subst (λ y. rule_in n y ≡ true) (sym is) fine.0 in
     let spares = subst (λ y. spares_all axs y ≡ true) (sym is) (and_from _ _ (not_from_false _ taken) (not_from_false _ barred)) in
-    record { few = omega (arith, c.put.ensures.len, d.rules.ok.0, fine.3); inside = every_put rule_view c.put.ensures.put (rule_in n) d.inside inside; spared = every_put rule_view c.put.ensures.put (spares_all axs) d.spared spares }
+    record {
+      few = omega (arith, c.put.ensures.len, d.rules.ok.0, fine.3);
+      inside = every_put rule_view c.put.ensures.put (rule_in n) d.inside inside;
+      spared = every_put rule_view c.put.ensures.put (spares_all axs) d.spared spares;
+    }
 
 pub returns-in-Ok : goal.returns-in-Ok
 returns-in-Ok c =
