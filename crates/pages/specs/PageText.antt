@@ -1,10 +1,10 @@
 -- The text that the page program prints for any input.
-use Rattle.std.specs.Prelude.{ℕ, Bool, cond, ◌&&◌, List, [], ◌∷◌, ◌++◌, length, take, codes, decimal, nat_le}
+use Rattle.std.specs.Prelude.{◌≡◌, ℕ, Bool, cond, ◌&&◌, ◌⊎◌, List, [], ◌∷◌, ◌++◌, length, take, codes, decimal, nat_le, Some, None, Option}
 use Rattle.std.specs.Option.{unwrap_or}
 use Rattle.refusals.specs.Limits.{deepest, most_file_bytes, program_clauses, program_literals}
 use Rattle.refusals.specs.Numbers.{number_of}
 use Rattle.refusals.specs.declared.refusal.Refusal.{Refusal}
-use Rattle.refusals.specs.declared.refusal.Refusal.TheVariants.{CutShort, TooDeep, NoRoom}
+use Rattle.refusals.specs.declared.refusal.Refusal.TheVariants.{CutShort, TooDeep, NoRoom, OutOfMemory}
 use Rattle.runs.specs.Problems.{Problem}
 use Rattle.runs.specs.Clauses.{clause_list, variables}
 use Rattle.holder.specs.Clauses.{size}
@@ -38,3 +38,12 @@ read_page_text k (whole p) = cond (list_fits p k) (page_text (variables p k) (cl
 abbrev pub printed : List ℕ → List ℕ
 printed [] = refused_at_text CutShort 0
 printed (k ∷ file) = cond (nat_le k deepest) (read_page_text k (read (take most_file_bytes file))) (refused_text TooDeep)
+
+-- the line of a refusal, with or without a byte
+abbrev pub told : Refusal → Option ℕ → List ℕ
+told r None = refused_text r
+told r (Some at) = refused_at_text r at
+
+-- a refusal is the one that the text tells; or memory was short
+abbrev pub Tells : Refusal → Option ℕ → List ℕ → Type 0
+Tells r at text = (r ≡ OutOfMemory) ⊎ (text ≡ told r at)

@@ -1,10 +1,11 @@
 // From the input's bytes to the page, or to the one refusal.
-ghost use Rattle.std.specs.Prelude.{◌≡◌, true, take, is_some, IfOk, string_bytes};
+ghost use Rattle.std.specs.Prelude.{◌≡◌, true, Some, None, take, is_some, IfOk, MatchResult, string_bytes};
+ghost use Rattle.refusals.specs.declared.refusal.Refusal.TheVariants.{OutOfMemory};
 ghost use Rattle.refusals.specs.Numbers.{number_of};
-ghost use Rattle.problem.specs.Tables.{view};
 ghost use Rattle.refusals.specs.Limits.{most_file_bytes};
+ghost use Rattle.problem.specs.Tables.{view};
 ghost use Rattle.file_format.specs.Reading.{read, whole};
-ghost use Rattle.pages.specs.PageText.{refused_line, refused_at_line, refused_text, refused_at_text, read_page_text, printed};
+ghost use Rattle.pages.specs.PageText.{read_page_text, printed, told, Tells};
 
 use clause_store::store::Store;
 use dimacs::write_page;
@@ -14,71 +15,90 @@ use numbering::depth::Depth;
 use numbering::numbers::variables;
 use problem::drafts::Problem;
 use problem_file::faults::ProblemFault;
-use refusals::limits::{DEEPEST, MOST_FILE_BYTES, PROGRAM_CLAUSES, PROGRAM_LITERALS};
+use refusals::limits::{MOST_FILE_BYTES, PROGRAM_CLAUSES, PROGRAM_LITERALS};
 use refusals::refusal::Refusal;
 use std::alloc::{AllocError, Global};
 
-fn refused_line(heap: Global, n: u8) -> Result<String, AllocError>
-    ensures { IfOk result (λ t. string_bytes t ≡ refused_line n) }
-{
-    format!(in heap; "refused {n}\n")
+// Why there is no page: a refusal, with the byte at which the file is at fault.
+#[derive(Clone, Copy, Debug, PartialEq, Eq)]
+struct Refused {
+    refusal: Refusal,
+    at: Option<usize>,
 }
 
-fn refused_at_line(heap: Global, n: u8, at: usize) -> Result<String, AllocError>
-    ensures { IfOk result (λ t. string_bytes t ≡ refused_at_line n at) }
-{
-    format!(in heap; "refused {n} at {at}\n")
-}
+impl From<Refusal> for Refused {
+    ghost from_gives = { λ e r. r ≡ record { refusal = e; at = None } };
 
-// `refused n`
-fn refused(heap: Global, refusal: Refusal) -> Result<String, AllocError>
-    ensures { IfOk result (λ t. (is_some (number_of refusal) ≡ true) × (string_bytes t ≡ refused_text refusal)) }
-{
-    match refusal.number() {
-        Some(n) => refused_line(heap, n),
-        None => Err(AllocError),
+    fn from(refusal: Refusal) -> Refused {
+        Refused { refusal, at: None }
     }
 }
 
-// `refused n at b`
-fn refused_at(heap: Global, refusal: Refusal, at: usize) -> Result<String, AllocError>
-    ensures { IfOk result (λ t. (is_some (number_of refusal) ≡ true) × (string_bytes t ≡ refused_at_text refusal at)) }
-{
-    match refusal.number() {
-        Some(n) => refused_at_line(heap, n, at),
-        None => Err(AllocError),
+impl From<ProblemFault> for Refused {
+    ghost from_gives = { λ e r. r ≡ record { refusal = e.refusal; at = Some e.at } };
+
+    fn from(fault: ProblemFault) -> Refused {
+        Refused {
+            refusal: fault.refusal,
+            at: Some(fault.at),
+        }
+    }
+}
+
+impl From<AllocError> for Refused {
+    ghost from_gives = { λ _ r. r ≡ record { refusal = OutOfMemory; at = None } };
+
+    fn from(_e: AllocError) -> Refused {
+        Refused::from(Refusal::OutOfMemory)
     }
 }
 
 // The page of a problem at a depth.
-fn laid(heap: Global, problem: &Problem, depth: Depth) -> Result<String, AllocError>
-    ensures { IfOk result (λ t. string_bytes t ≡ read_page_text depth.value (whole (view problem.now))) }
+fn page_of_problem(heap: Global, problem: &Problem, depth: Depth) -> Result<String, Refused>
+    ensures { MatchResult result (λ t. string_bytes t ≡ read_page_text depth.value (whole (view problem.now))) (λ e. Tells e.refusal e.at (read_page_text depth.value (whole (view problem.now)))) }
 {
     let mut store = Store::new(heap, PROGRAM_CLAUSES, PROGRAM_LITERALS)?;
-    match lay(problem, depth.value(), &mut store) {
-        Ok(()) => write_page(heap, &store, variables(problem, depth)),
-        Err(refusal) => refused(heap, refusal),
-    }
+    lay(problem, depth.value(), &mut store)?;
+    Ok(write_page(heap, &store, variables(problem, depth))?)
 }
 
 // The first bytes of a file, as many as count.
+#[tactic(auto, using(std::proofs::lemmas::List::take_min))]
 fn counted(file: &[u8]) -> &[u8]
     ensures { result.now ≡ take most_file_bytes file.now }
 {
-    if file.len() <= MOST_FILE_BYTES {
-        file
-    } else {
-        &file[0..MOST_FILE_BYTES]
-    }
+    &file[..MOST_FILE_BYTES.min(file.len())]
 }
 
 // The page at a depth of a file.
-fn page_of_file(heap: Global, depth: Depth, file: &[u8]) -> Result<String, AllocError>
-    ensures { IfOk result (λ t. string_bytes t ≡ read_page_text depth.value (read (take most_file_bytes file.now))) }
+fn page_of_file(heap: Global, depth: Depth, file: &[u8]) -> Result<String, Refused>
+    ensures { MatchResult result (λ t. string_bytes t ≡ read_page_text depth.value (read (take most_file_bytes file.now))) (λ e. Tells e.refusal e.at (read_page_text depth.value (read (take most_file_bytes file.now)))) }
 {
-    match read_problem(heap, counted(file)) {
-        Ok(problem) => laid(heap, &problem, depth),
-        Err(fault) => refused_at(heap, fault.refusal, fault.at),
+    let problem = read_problem(heap, counted(file))?;
+    page_of_problem(heap, &problem, depth)
+}
+
+// The page of an input: a depth byte, and a file.
+fn page(heap: Global, input: &[u8]) -> Result<String, Refused>
+    ensures { MatchResult result (λ t. string_bytes t ≡ printed input.now) (λ e. Tells e.refusal e.at (printed input.now)) }
+{
+    let Some((depth, file)) = input.split_first() else {
+        return Err(Refused {
+            refusal: Refusal::CutShort,
+            at: Some(0),
+        });
+    };
+    page_of_file(heap, Depth::new(u32::from(*depth))?, file)
+}
+
+// `refused n`, or `refused n at b`; there is no line for want of memory.
+fn line(heap: Global, refused: Refused) -> Result<String, AllocError>
+    ensures { IfOk result (λ t. (is_some (number_of refused.refusal) ≡ true) × (string_bytes t ≡ told refused.refusal refused.at)) }
+{
+    let n = refused.refusal.number().ok_or(AllocError)?;
+    match refused.at {
+        Some(at) => format!(in heap; "refused {n} at {at}\n"),
+        None => format!(in heap; "refused {n}\n"),
     }
 }
 
@@ -86,11 +106,5 @@ fn page_of_file(heap: Global, depth: Depth, file: &[u8]) -> Result<String, Alloc
 pub fn page_text(heap: Global, input: &[u8]) -> Result<String, AllocError>
     ensures { IfOk result (λ t. string_bytes t ≡ printed input.now) }
 {
-    if input.is_empty() {
-        return refused_at(heap, Refusal::CutShort, 0);
-    }
-    match Depth::new(input[0] as u32) {
-        Ok(depth) => page_of_file(heap, depth, &input[1..]),
-        Err(refusal) => refused(heap, refusal),
-    }
+    page(heap, input).or_else(|refused| line(heap, refused))
 }
