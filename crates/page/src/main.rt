@@ -12,9 +12,7 @@ fn run(rt: &HostRuntime) -> anyhow::Result<()> {
     rt.stdin()
         .take(1 + MOST_FILE_BYTES as u64)
         .read_to_end(&mut input)?;
-    let Ok(text) = page_text(rt.alloc(), &input) else {
-        return Err(anyhow!("out of memory"));
-    };
+    let text = page_text(rt.alloc(), &input).map_err(|_| anyhow!("out of memory"))?;
     rt.print(text.as_str())?;
     Ok(())
 }

@@ -5,10 +5,10 @@ use anyhow::anyhow;
 use clause_store::store::Store;
 use dimacs::write_page;
 use encoding::whole::lay;
-use holder::held::Holder;
 use numbering::depth::Depth;
 use numbering::numbers::variables;
 use problem::drafts::{AxiomDraft, Problem};
+use problem::given::{GivenAxiom, GivenGoal, GivenRule};
 use refusals::limits::{MOST_AXIOMS, MOST_FACTS, MOST_GOALS, MOST_HELD, MOST_RULES};
 use refusals::refusal::Refusal;
 use std::alloc::Global;
@@ -25,38 +25,50 @@ const FORBIDDEN: [u16; 8] = [121, 122, 123, 124, 125, 126, 127, 128];
 // Every table full, every list as long as it may be, every two rules in conflict.
 fn largest(heap: Global) -> Result<Problem, Refusal> {
     let mut axioms = AxiomDraft::open(heap, MOST_FACTS, &LOW)?;
-    for n in 0..MOST_AXIOMS as u16 {
-        axioms.axiom(heap, &LOW, n + 9)?;
+    for conclusion in 9..9 + MOST_AXIOMS as u16 {
+        axioms.axiom(
+            heap,
+            GivenAxiom {
+                premises: &LOW,
+                conclusion,
+            },
+        )?;
     }
     let mut rules = axioms.rules(heap);
     for _ in 0..MOST_RULES {
-        rules.rule(heap, &NEEDED, &FORBIDDEN, &LEFT)?;
+        rules.rule(
+            heap,
+            GivenRule {
+                needed: &NEEDED,
+                forbidden: &FORBIDDEN,
+                left: &LEFT,
+            },
+        )?;
     }
     let mut goals = rules.goals(heap);
     for _ in 0..MOST_GOALS {
-        goals.goal(heap, &LEFT, &NEEDED)?;
+        goals.goal(
+            heap,
+            GivenGoal {
+                wanted: &LEFT,
+                unwanted: &NEEDED,
+            },
+        )?;
     }
-    match goals.finish() {
-        Ok(problem) => Ok(problem),
-        Err(unfinished) => Err(unfinished.refusal),
-    }
+    goals.finish().map_err(|unfinished| unfinished.refusal)
 }
 
 fn measure(rt: &HostRuntime, problem: &Problem, k: u32) -> anyhow::Result<()> {
     let heap = rt.alloc();
-    let Ok(depth) = Depth::new(k) else {
-        return Err(anyhow!("too deep"));
-    };
+    let depth = Depth::try_from(k).map_err(|_| anyhow!("too deep"))?;
     let mut store = Store::new(heap, MOST_HELD, MOST_HELD)?;
     let start = Instant::now(rt)?;
-    if lay(problem, k, &mut store).is_err() {
-        return Err(anyhow!("refused"));
-    }
+    lay(problem, k, &mut store).map_err(|_| anyhow!("refused"))?;
     let laid = start.elapsed(rt)?;
     let page = write_page(heap, &store, variables(problem, depth))?;
     let written = start.elapsed(rt)?;
-    let clauses = MOST_HELD - store.room().clauses.min(MOST_HELD);
-    let literals = MOST_HELD - store.room().literals.min(MOST_HELD);
+    let clauses = store.count();
+    let literals = store.size();
     let bytes = page.len();
     println!(rt; "depth {k}: {clauses} clauses, {literals} literals, {bytes} bytes")?;
     let laying = laid.as_micros();
@@ -66,9 +78,7 @@ fn measure(rt: &HostRuntime, problem: &Problem, k: u32) -> anyhow::Result<()> {
 }
 
 fn run(rt: &HostRuntime) -> anyhow::Result<()> {
-    let Ok(problem) = largest(rt.alloc()) else {
-        return Err(anyhow!("the problem is refused"));
-    };
+    let problem = largest(rt.alloc()).map_err(|_| anyhow!("the problem is refused"))?;
     for k in [4, 8, 16] {
         measure(rt, &problem, k)?;
     }

@@ -88,7 +88,7 @@ fn page(heap: Global, input: &[u8]) -> Result<String, Refused>
             at: Some(0),
         });
     };
-    page_of_file(heap, Depth::new(u32::from(*depth))?, file)
+    page_of_file(heap, Depth::try_from(u32::from(*depth))?, file)
 }
 
 // `refused n`, or `refused n at b`; there is no line for want of memory.
