@@ -168,7 +168,7 @@ impl GoalDraft {
         ensures { Says (goal_fault (goals_drafted self.old) (given_goal given.entry)) (with_goal (goals_drafted self.old) (given_goal given.entry)) (goals_drafted self.old) (goals_drafted self.new) result }
     {
         self.judge_goal(given)?;
-        if !given.is_some() {
+        if given.is_empty() {
             return Err(Refusal::EmptyGoal);
         }
         self.goals.push(Goal::copied(heap, given)?)?;

@@ -1,5 +1,5 @@
 // Records as callers give them, and what each shows by itself.
-ghost use Rattle.std.specs.Prelude.{◌≡◌, ◌+◌, ◌&&◌, length, nat_lt};
+ghost use Rattle.std.specs.Prelude.{◌≡◌, ◌+◌, not, ◌&&◌, length, nat_lt};
 ghost use Rattle.problem.specs.Lists.{rises};
 ghost use Rattle.problem.specs.Views.{axiom_in, rule_in, goal_in};
 ghost use Rattle.problem.specs.Faults.{short};
@@ -83,10 +83,9 @@ impl GivenGoal<'_> {
         all_short(&[self.wanted, self.unwanted])
     }
 
-    // Whether there is something in it.
-    pub(crate) fn is_some(self) -> bool
-        ensures { result ≡ nat_lt 0 (length self.entry.wanted.now + length self.entry.unwanted.now) }
+    pub(crate) fn is_empty(self) -> bool
+        ensures { result ≡ not (nat_lt 0 (length self.entry.wanted.now + length self.entry.unwanted.now)) }
     {
-        !self.wanted.is_empty() || !self.unwanted.is_empty()
+        self.wanted.is_empty() && self.unwanted.is_empty()
     }
 }
