@@ -2,7 +2,7 @@ use Rattle.std.proofs.Common.{◌≡◌, ◌<◌, ◌≤◌, length, refl, ap, a
 use Rattle.holder.specs.Clauses.{holding}
 use Rattle.clause_store.specs.Made.{stood_of}
 use Rattle.clause_store.specs.Sizes.{length-cut_up}
-use Rattle.clause_store.proofs.Cuts.{ordered_take, cut_up-take, end_within}
+use Rattle.clause_store.proofs.Cuts.{ordered_take, cut_up-take, end_between}
 use Rattle.clause_store.proofs.Named.{fine_take}
 use Rattle.clause_store.proofs.Facts.{cut_past, cut_fine}
 use Rattle.clause_store.proofs.work.StoreHolder.cut.Goals as goal
@@ -17,15 +17,14 @@ pub invariant_of-self : goal.invariant_of-self
 invariant_of-self c =
     let s = c.args.self.now in
     let n = c.args.n in
-    let l : n ≤ length s.ends.items = omega arith in
-    let w = end_within 0 n s.ends.items (length s.literals.items) s.in_order in
+    let w = end_between 0 n s.ends.items (length s.literals.items) s.in_order in
     let m : length c.truncate-2.new.self.items ≡ c.end_of-end.result = omega arith in
     record {
       clause_room = search rules;
       literal_room = search rules;
       few_clauses = search rules;
       few_literals = search rules;
-      in_order = cc (ordered_take 0 n s.ends.items (length s.literals.items) l s.in_order);
+      in_order = cc (ordered_take 0 n s.ends.items (length s.literals.items) s.in_order);
       fine = cc (fine_take c.end_of-end.result s.literals.items s.fine);
     }
 
