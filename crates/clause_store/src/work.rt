@@ -119,6 +119,7 @@ impl Holder for Store {
         }
     }
 
+    #[tactic(auto, using(crate::proofs::Cuts::sizes))]
     fn take(&mut self, clause: &[i32]) -> Result<(), Refusal> {
         if !flat::is_proper(clause) {
             return Err(Refusal::BadClause);
@@ -133,6 +134,7 @@ impl Holder for Store {
         Ok(())
     }
 
+    #[tactic(auto, using(crate::proofs::Cuts::sizes))]
     fn cut(&mut self, n: usize) -> Result<(), Refusal> {
         if n > self.ends.len() {
             return Err(Refusal::CutBeyond);

@@ -13,20 +13,17 @@ returns-then-n-len c _ =
     let e = length-cut_up 0 s.ends.items s.literals.items in
     (tt, record { value = cut_past (stood_of s) c.args.n (omega arith); after = refl })
 
-pub invariant_of-self : goal.invariant_of-self
-invariant_of-self c =
+pub invariant_of-self-clause-in_order : goal.invariant_of-self-clause-in_order
+invariant_of-self-clause-in_order c =
     let s = c.args.self.now in
-    let n = c.args.n in
-    let w = end_between 0 n s.ends.items (length s.literals.items) s.in_order in
+    let w = end_between 0 c.args.n s.ends.items (length s.literals.items) s.in_order in
     let m : length c.truncate-2.new.self.items ≡ c.end_of-end.result = omega arith in
-    record {
-      clause_room = search rules;
-      literal_room = search rules;
-      few_clauses = search rules;
-      few_literals = search rules;
-      in_order = cc (ordered_take 0 n s.ends.items (length s.literals.items) s.in_order);
-      fine = cc (fine_take c.end_of-end.result s.literals.items s.fine);
-    }
+    cc (ordered_take 0 c.args.n s.ends.items (length s.literals.items) s.in_order)
+
+pub invariant_of-self-clause-fine : goal.invariant_of-self-clause-fine
+invariant_of-self-clause-fine c =
+    let s = c.args.self.now in
+    cc (fine_take c.end_of-end.result s.literals.items s.fine)
 
 pub returns : goal.returns
 returns c _ =
