@@ -2,8 +2,10 @@
 use Rattle.std.specs.Prelude.{◌≡◌, ℕ, zero, suc, ◌+◌, ◌-◌, ◌<◌, ◌≤◌, true, List, [], ◌∷◌, ◌++◌, length, take, drop, ℤ, slice_index, get_or, slice_index_or, refl}
 use Rattle.std.proofs.Common.{sym, ap, ◌∙◌, sub-one, arith, length-drop}
 use Rattle.std.proofs.lemmas.Bool.{and_from, le-leb, eqb-true, eq-eqb}
-use Rattle.std.proofs.lemmas.List.{get_or_past, get_or_read, take-append-le, drop-append-le, drop_at, take_all, take-take}
+use Rattle.std.proofs.lemmas.Bool.Decides.{nat_tests}
+use Rattle.std.proofs.lemmas.List.{get_or_past, get_or_read, length_push, take-append-le, drop-append-le, drop_at, take_all, take-take}
 use Rattle.std.proofs.lemmas.Slice.{between_is}
+use Rattle.holder.specs.Clauses.{size}
 use Rattle.clause_store.specs.Flat.{cut_up, ordered, end_of}
 use Rattle.clause_store.specs.Sizes.{ordered_below, ordered_head, length-cut_up, size-cut_up}
 
@@ -78,7 +80,14 @@ end_step s i [] m h l = absurd (omega arith)
 end_step s zero (e ∷ es) m h l = let t = ordered_head s e es m h in (t.0, t.1)
 end_step s (suc i) (e ∷ es) m h l = end_step e i es m (ordered_head s e es m h).2 (omega arith)
 
+pub size-push : (cs : List (List ℤ)) (c : List ℤ) → size (cs ++ c ∷ []) ≡ size cs + length c
+size-push [] c = omega arith
+size-push (d ∷ cs) c = let h = size-push cs c in omega arith
+
 pub ruleset sizes = (length-cut_up, size-cut_up)
+
+-- what is told by the sizes before and after
+pub ruleset told = (nat_tests, length_push, size-push, length-cut_up, size-cut_up)
 
 pub ruleset places = (cut_up_at, end_step, length-cut_up, get_or_past)
 

@@ -119,7 +119,7 @@ impl Holder for Store {
         }
     }
 
-    #[tactic(auto, using(crate::proofs::Cuts::sizes))]
+    #[tactic(auto, using(crate::proofs::Cuts::told))]
     fn take(&mut self, clause: &[i32]) -> Result<(), Refusal> {
         if !flat::is_proper(clause) {
             return Err(Refusal::BadClause);
@@ -134,7 +134,7 @@ impl Holder for Store {
         Ok(())
     }
 
-    #[tactic(auto, using(crate::proofs::Cuts::sizes))]
+    #[tactic(auto, using(crate::proofs::Cuts::told))]
     fn cut(&mut self, n: usize) -> Result<(), Refusal> {
         if n > self.ends.len() {
             return Err(Refusal::CutBeyond);

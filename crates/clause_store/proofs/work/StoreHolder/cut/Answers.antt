@@ -1,17 +1,9 @@
-use Rattle.std.proofs.Common.{◌≡◌, ◌<◌, ◌≤◌, length, refl, ap, arith, rules}
+use Rattle.std.proofs.Common.{◌≡◌, length, ap, arith}
 use Rattle.holder.specs.Clauses.{holding}
 use Rattle.clause_store.specs.Made.{stood_of}
-use Rattle.clause_store.specs.Sizes.{length-cut_up}
-use Rattle.clause_store.proofs.Cuts.{ordered_take, cut_up-take, end_between}
+use Rattle.clause_store.proofs.Cuts.{ordered_take, cut_up-take, end_between, told}
 use Rattle.clause_store.proofs.Named.{fine_take}
-use Rattle.clause_store.proofs.Facts.{cut_past, cut_fine}
 use Rattle.clause_store.proofs.work.StoreHolder.cut.Goals as goal
-
-pub returns-then-n-len : goal.returns-then-n-len
-returns-then-n-len c _ =
-    let s = c.args.self.now in
-    let e = length-cut_up 0 s.ends.items s.literals.items in
-    (tt, record { value = cut_past (stood_of s) c.args.n (omega arith); after = refl })
 
 pub invariant_of-self-clause-in_order : goal.invariant_of-self-clause-in_order
 invariant_of-self-clause-in_order c =
@@ -28,7 +20,6 @@ invariant_of-self-clause-fine c =
 pub returns : goal.returns
 returns c _ =
     let s = c.args.self.now in
-    let n = c.args.n in
-    let e = length-cut_up 0 s.ends.items s.literals.items in
-    let fewer = cut_up-take 0 n s.ends.items s.literals.items c.end_of-end.result s.in_order (omega arith) in
-    (tt, record { value = cut_fine (stood_of s) n (omega arith); after = ap (holding (stood_of s)) (cc fewer) })
+    let w = end_between 0 c.args.n s.ends.items (length s.literals.items) s.in_order in
+    let fewer = cut_up-take 0 c.args.n s.ends.items s.literals.items c.end_of-end.result s.in_order (omega arith) in
+    (tt, record { value = grind (arith, told); after = ap (holding (stood_of s)) (cc fewer) })
