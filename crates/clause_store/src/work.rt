@@ -124,11 +124,14 @@ impl Holder for Store {
         if !flat::is_proper(clause) {
             return Err(Refusal::BadClause);
         }
-        let room = self.room();
-        if room.clauses == 0 || clause.len() > room.literals {
+        let size = Size {
+            clauses: 1,
+            literals: clause.len(),
+        };
+        if !size.fits(self.room()) {
             return Err(Refusal::NoRoom);
         }
-        // Room for it was reserved, so this does not fail.
+        // Memory for it is reserved, so this does not fail.
         self.literals.extend_from_slice(clause)?;
         self.ends.push_reserved(self.literals.len());
         Ok(())

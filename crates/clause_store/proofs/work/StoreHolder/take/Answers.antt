@@ -20,7 +20,7 @@ invariant_of-self-2-clause-fine c =
 pub returns : goal.returns
 returns c _ =
     let s = c.args.self.now in
-    let r = c.room-room.ensures tt in
+    let r = c.room.ensures tt in
     let e = c.in_ok-extend_from_slice.ensures in
     let more = cut_up-push 0 s.ends.items s.literals.items c.args.clause.now c.len.result s.in_order (omega arith) in
     (tt, record { value = grind (arith, told); after = ap (holding (stood_of s)) (cc more) })
