@@ -4,7 +4,6 @@ ghost use Rattle.runs.specs.Clauses.{joined};
 ghost use Rattle.holder.specs.Clauses.{size};
 ghost use Rattle.dimacs.specs.Text.{clause_text, page_text};
 
-use crate::numbers::write_literal;
 use holder::held::Holder;
 use std::alloc::{AllocError, Global};
 
@@ -18,11 +17,12 @@ fn write_clause<H: Holder>(
     requires { H.orderly holder.now → (i < length (H.stood holder.now).held) × (size (H.stood holder.now).held ≤ most) }
     ensures { H.orderly holder.now → OnOk result (string_bytes out.new ≡ string_bytes out.old ++ clause_text (slice_index_or (H.stood holder.now).held i [])) }
 {
+    // A holder is read by numbers, so the loop goes over them.
     for j in 0..most {
         let Ok(l) = holder.literal(i, j) else {
             break;
         };
-        write_literal(out, l)?;
+        write!(out, "{l} ")?;
     }
     out.push_str("0\n")
 }
@@ -37,6 +37,7 @@ fn write_clauses<H: Holder>(
     requires { H.orderly holder.now → (n ≡ length (H.stood holder.now).held) × (size (H.stood holder.now).held ≤ most) }
     ensures { H.orderly holder.now → OnOk result (string_bytes out.new ≡ string_bytes out.old ++ joined clause_text (H.stood holder.now).held) }
 {
+    // Over numbers here too.
     for i in 0..n {
         write_clause(out, holder, i, most)?;
     }
