@@ -12,6 +12,7 @@ pub fn lay_line<H: Taker>(taker: &mut H, line: &Line)
     taker.lay(line.as_slice())
 }
 
+// One function for each number: for N literals the promise would hang on N, and the array on a closure with a clause of its own.
 pub fn lay_one<H: Taker>(taker: &mut H, a: Literal)
     ensures { H.grew taker.old ((value a ∷ []) ∷ []) taker.new }
 {

@@ -22,7 +22,7 @@ pub struct Literals {
     pub past: u32,
 }
 
-// The literals so far.
+// The literals so far. Proofs see the list of an ArrayVec and not its capacity, so that is stated.
 #[derive(Drop)]
 pub struct Line {
     pub(crate) literals: ArrayVec<i32, LONGEST_CLAUSE>,
