@@ -1,5 +1,2 @@
 pub mod Headers
 pub mod Counts
-pub mod Layered
-pub mod Taking
-pub mod Telling

@@ -41,86 +41,57 @@ pub struct GoalLists {
 }
 
 // A count, so many bytes, and what follows them.
-fn counted<'a>(bytes: &'a [u8]) -> Option<(&'a [u8], &'a [u8])>
+fn counted(bytes: &[u8]) -> Option<(&[u8], &[u8])>
     ensures { Parts (counted bytes.now) result }
 {
-    if bytes.len() == 0 {
-        return None;
-    }
-    let count = bytes[0] as usize;
-    if bytes.len() - 1 < count {
-        return None;
-    }
-    Some((&bytes[1..1 + count], &bytes[1 + count..]))
+    let (count, rest) = bytes.split_first()?;
+    rest.split_at_checked(usize::from(*count))
 }
 
 // The facts that bytes name.
 pub(crate) fn facts(heap: Global, bytes: &[u8]) -> Result<Vec<u16>, Refusal>
     ensures { MatchResult result (λ v. v.items ≡ bytes.now) (λ e. e ≡ OutOfMemory) }
 {
-    let mut facts = Vec::new(heap);
-    for b in bytes {
-        if facts.push(*b as u16).is_err() {
-            return Err(Refusal::OutOfMemory);
-        }
-    }
-    Ok(facts)
+    Ok(bytes.iter().map(|b| u16::from(*b)).collect(heap)?)
 }
 
 pub(crate) fn axiom_lists(heap: Global, value: &[u8]) -> Result<AxiomLists, Refusal>
     ensures { AxiomListsSay value.now result }
 {
-    let Some((premises, rest)) = counted(value) else {
+    let (premises, rest) = counted(value).ok_or(Refusal::WrongLength)?;
+    let [conclusion] = rest else {
         return Err(Refusal::WrongLength);
     };
-    if rest.len() != 1 {
-        return Err(Refusal::WrongLength);
-    }
-    let premises = facts(heap, premises)?;
     Ok(AxiomLists {
-        premises,
-        conclusion: rest[0] as u16,
+        premises: facts(heap, premises)?,
+        conclusion: u16::from(*conclusion),
     })
 }
 
-pub(crate) fn rule_lists<'a>(heap: Global, value: &'a [u8]) -> Result<LabelledRule<'a>, Refusal>
+pub(crate) fn rule_lists(heap: Global, value: &[u8]) -> Result<LabelledRule<'_>, Refusal>
     ensures { RuleListsSay value.now result }
 {
-    let Some((needed, rest)) = counted(value) else {
-        return Err(Refusal::WrongLength);
+    let (needed, rest) = counted(value).ok_or(Refusal::WrongLength)?;
+    let (forbidden, rest) = counted(rest).ok_or(Refusal::WrongLength)?;
+    let (left, label) = counted(rest).ok_or(Refusal::WrongLength)?;
+    let rule = RuleLists {
+        needed: facts(heap, needed)?,
+        forbidden: facts(heap, forbidden)?,
+        left: facts(heap, left)?,
     };
-    let Some((forbidden, rest)) = counted(rest) else {
-        return Err(Refusal::WrongLength);
-    };
-    let Some((left, label)) = counted(rest) else {
-        return Err(Refusal::WrongLength);
-    };
-    let needed = facts(heap, needed)?;
-    let forbidden = facts(heap, forbidden)?;
-    let left = facts(heap, left)?;
-    Ok(LabelledRule {
-        rule: RuleLists {
-            needed,
-            forbidden,
-            left,
-        },
-        label,
-    })
+    Ok(LabelledRule { rule, label })
 }
 
 pub(crate) fn goal_lists(heap: Global, value: &[u8]) -> Result<GoalLists, Refusal>
     ensures { GoalListsSay value.now result }
 {
-    let Some((wanted, rest)) = counted(value) else {
-        return Err(Refusal::WrongLength);
-    };
-    let Some((unwanted, rest)) = counted(rest) else {
-        return Err(Refusal::WrongLength);
-    };
-    if rest.len() != 0 {
+    let (wanted, rest) = counted(value).ok_or(Refusal::WrongLength)?;
+    let (unwanted, rest) = counted(rest).ok_or(Refusal::WrongLength)?;
+    if !rest.is_empty() {
         return Err(Refusal::WrongLength);
     }
-    let wanted = facts(heap, wanted)?;
-    let unwanted = facts(heap, unwanted)?;
-    Ok(GoalLists { wanted, unwanted })
+    Ok(GoalLists {
+        wanted: facts(heap, wanted)?,
+        unwanted: facts(heap, unwanted)?,
+    })
 }
