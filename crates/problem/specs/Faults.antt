@@ -1,5 +1,5 @@
 -- What is wrong with a record that a draft is given: the first refusal whose condition holds.
-use Rattle.std.specs.Prelude.{◌≡◌, ℕ, ◌+◌, Bool, cond, not, ◌&&◌, List, [], ◌∷◌, ◌++◌, length, is_ok, IfErr, Some, None, Ok, Err, Option, Result, nat_le, nat_lt}
+use Rattle.std.specs.Prelude.{◌≡◌, ℕ, ◌+◌, Bool, cond, not, ◌&&◌, List, length, Some, None, Ok, Err, Option, Result, nat_le, nat_lt}
 use Rattle.std.specs.Option.{unwrap_or}
 use Rattle.runs.specs.Problems.{Axiom, Rule, Goal, Problem}
 use Rattle.runs.specs.Steps.{any}
@@ -67,8 +67,3 @@ module _ (p : Problem) where
 abbrev pub Says : Option Refusal → Problem → Problem → Problem → Result (Unit {0}) Refusal → Type 0
 Says fault grown before after (Ok _) = (fault ≡ None) × (after ≡ grown)
 Says fault grown before after (Err e) = (e ≡ unwrap_or fault OutOfMemory) × (after ≡ before)
-
--- a table, before and after a row was put at its end: it is there, or memory was short and the table is as before
-pub record Put {X : Type 0} (x : X) (before after : List X) (r : Result (Unit {0}) Refusal) : Type 0 where
-  pub items : after ≡ cond (is_ok r) (before ++ x ∷ []) before
-  pub refused : IfErr r (λ e. e ≡ OutOfMemory)

@@ -1,4 +1,5 @@
 pub mod Lists
 pub mod Views
+pub mod Given
 pub mod Faults
 pub mod Tables

@@ -3,6 +3,7 @@
 
 pub mod drafting;
 pub mod drafts;
+pub mod given;
 pub mod judging;
 pub mod lists;
 pub mod parts;
