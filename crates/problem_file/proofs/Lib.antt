@@ -1,2 +1,5 @@
 pub mod Headers
 pub mod Counts
+pub mod Layered
+pub mod Taking
+pub mod Telling

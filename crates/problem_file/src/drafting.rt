@@ -42,8 +42,8 @@ pub trait Drafting<'a>: Tagged {
         ensures { Reads (due (Self.drafted self.now) value.now) (take_value (tag_number Self.TAG) (Self.drafted self.now) value.now) (holds value.now) result };
 
     // A record that was read, taken into the table, or refused by what holds between the facts.
-    fn take(&mut self, heap: Global, record: &Self::Record) -> Result<(), Refusal>
-        ensures { (v : List ℕ) → holds v record.now → due (Self.drafted self.old) v ≡ None → Drafts (take_value (tag_number Self.TAG) (Self.drafted self.old) v) (Self.drafted self.old) result (Self.drafted self.new) };
+    fn take(&mut self, heap: Global, given: &Self::Record) -> Result<(), Refusal>
+        ensures { (v : List ℕ) → holds v given.now → due (Self.drafted self.old) v ≡ None → Drafts (take_value (tag_number Self.TAG) (Self.drafted self.old) v) (Self.drafted self.old) result (Self.drafted self.new) };
 }
 
 impl Tagged for AxiomDraft {
@@ -65,14 +65,12 @@ impl<'a> Drafting<'a> for AxiomDraft {
 
     fn read(&self, heap: Global, value: &'a [u8]) -> Result<AxiomLists, Refusal> {
         let lists = axiom_lists(heap, value)?;
-        match self.judge_axiom(&lists.premises, lists.conclusion) {
-            Some(refusal) => Err(refusal),
-            None => Ok(lists),
-        }
+        self.judge_axiom(lists.lent())?;
+        Ok(lists)
     }
 
-    fn take(&mut self, heap: Global, record: &AxiomLists) -> Result<(), Refusal> {
-        self.axiom(heap, &record.premises, record.conclusion)
+    fn take(&mut self, heap: Global, given: &AxiomLists) -> Result<(), Refusal> {
+        self.axiom(heap, given.lent())
     }
 }
 
@@ -95,19 +93,15 @@ impl<'a> Drafting<'a> for RuleDraft {
 
     fn read(&self, heap: Global, value: &'a [u8]) -> Result<LabelledRule<'a>, Refusal> {
         let labelled = rule_lists(heap, value)?;
-        let rule = &labelled.rule;
-        if let Some(refusal) = self.judge_rule(&rule.needed, &rule.forbidden, &rule.left) {
-            return Err(refusal);
-        }
+        self.judge_rule(labelled.rule.lent())?;
         if !is_label(labelled.label) {
             return Err(Refusal::BadLabel);
         }
         Ok(labelled)
     }
 
-    fn take(&mut self, heap: Global, record: &LabelledRule<'a>) -> Result<(), Refusal> {
-        let rule = &record.rule;
-        self.rule(heap, &rule.needed, &rule.forbidden, &rule.left)
+    fn take(&mut self, heap: Global, given: &LabelledRule<'a>) -> Result<(), Refusal> {
+        self.rule(heap, given.rule.lent())
     }
 }
 
@@ -130,13 +124,11 @@ impl<'a> Drafting<'a> for GoalDraft {
 
     fn read(&self, heap: Global, value: &'a [u8]) -> Result<GoalLists, Refusal> {
         let lists = goal_lists(heap, value)?;
-        match self.judge_goal(&lists.wanted, &lists.unwanted) {
-            Some(refusal) => Err(refusal),
-            None => Ok(lists),
-        }
+        self.judge_goal(lists.lent())?;
+        Ok(lists)
     }
 
-    fn take(&mut self, heap: Global, record: &GoalLists) -> Result<(), Refusal> {
-        self.goal(heap, &record.wanted, &record.unwanted)
+    fn take(&mut self, heap: Global, given: &GoalLists) -> Result<(), Refusal> {
+        self.goal(heap, given.lent())
     }
 }

@@ -60,17 +60,6 @@ impl From<RecordFault> for ProblemFault {
 }
 
 impl RecordFault {
-    // The file ends where a field is owed.
-    pub(crate) fn missing(at: usize) -> RecordFault
-        ensures { (result.refusal ≡ Refusal.Missing) × (result.layer ≡ Layer.Field) × (result.at ≡ at) }
-    {
-        RecordFault {
-            refusal: Refusal::Missing,
-            layer: Layer::Field,
-            at,
-        }
-    }
-
     pub(crate) fn new(refusal: Refusal, at: usize) -> RecordFault
         ensures { (result.refusal ≡ refusal) × (result.layer ≡ Layer.Record) × (result.at ≡ at) }
     {

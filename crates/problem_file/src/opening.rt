@@ -4,7 +4,7 @@ ghost use Rattle.file_format.specs.Fields.{next_field};
 ghost use Rattle.problem_file.specs.Says.{tag_number};
 ghost use Rattle.problem_file.specs.Opens.{FactsIn, FactsSay, StartIn, StartSays};
 
-use crate::faults::RecordFault;
+use crate::faults::{FieldFault, RecordFault};
 use crate::field::Tag;
 use crate::file::ProblemFile;
 use crate::place::{Guard, Place};
@@ -46,27 +46,30 @@ impl ProblemFile<'_> {
         let mut guard = Guard::over(place);
         let field = self
             .next_field(guard.place, Tag::Facts, Tag::Facts)?
-            .ok_or(RecordFault::missing(at))?;
+            .ok_or(FieldFault {
+                refusal: Refusal::Missing,
+                at,
+            })?;
         let facts = facts_in(field.value).map_err(|refusal| RecordFault::new(refusal, at))?;
         guard.accept();
         Ok(facts)
     }
 
     // The start list, over so many facts: it opens the draft.
-    pub fn next_start(
-        self,
-        place: &mut Place,
-        facts_count: u16,
-    ) -> Result<AxiomDraft, RecordFault>
+    pub fn next_start(self, place: &mut Place, facts_count: u16) -> Result<AxiomDraft, RecordFault>
         ensures { StartSays self.entry.bytes.now place.old.at facts_count (next_field 2 2 (drop place.old.at self.entry.bytes.now)) result place.new.at }
     {
         let at = place.at;
         let mut guard = Guard::over(place);
         let field = self
             .next_field(guard.place, Tag::Start, Tag::Start)?
-            .ok_or(RecordFault::missing(at))?;
-        let draft = opened(self.heap, facts_count, field.value)
-            .map_err(|refusal| RecordFault::new(refusal, at))?;
+            .ok_or(FieldFault {
+                refusal: Refusal::Missing,
+                at,
+            })?;
+        let draft = opened(self.heap, facts_count, field.value).map_err(|refusal| RecordFault::new(
+            refusal, at,
+        ))?;
         guard.accept();
         Ok(draft)
     }

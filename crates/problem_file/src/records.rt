@@ -1,9 +1,11 @@
 // Records as plain lists, read from the values of fields.
 ghost use Rattle.std.specs.Prelude.{◌≡◌, MatchResult};
 ghost use Rattle.file_format.specs.Fields.{counted};
-ghost use Rattle.problem_file.specs.Lists.{Parts, AxiomListsSay, RuleListsSay, GoalListsSay};
+ghost use Rattle.problem.specs.Given.{given_axiom, given_rule, given_goal};
+ghost use Rattle.problem_file.specs.Lists.{axiom_listed, rule_listed, goal_listed, Parts, AxiomListsSay, RuleListsSay, GoalListsSay};
 ghost use Rattle.refusals.specs.declared.refusal.Refusal.TheVariants.{OutOfMemory};
 
+use problem::given::{GivenAxiom, GivenGoal, GivenRule};
 use refusals::refusal::Refusal;
 use std::alloc::Global;
 
@@ -20,11 +22,34 @@ pub struct AxiomLists {
     pub conclusion: u16,
 }
 
+impl AxiomLists {
+    pub(crate) fn lent(&self) -> GivenAxiom<'_>
+        ensures { given_axiom result ≡ axiom_listed self.now }
+    {
+        GivenAxiom {
+            premises: &self.premises,
+            conclusion: self.conclusion,
+        }
+    }
+}
+
 #[derive(Drop)]
 pub struct RuleLists {
     pub needed: Vec<u16>,
     pub forbidden: Vec<u16>,
     pub left: Vec<u16>,
+}
+
+impl RuleLists {
+    pub(crate) fn lent(&self) -> GivenRule<'_>
+        ensures { given_rule result ≡ rule_listed self.now }
+    {
+        GivenRule {
+            needed: &self.needed,
+            forbidden: &self.forbidden,
+            left: &self.left,
+        }
+    }
 }
 
 // A rule with its label, which is handed on as the part of the file that it is.
@@ -38,6 +63,17 @@ pub struct LabelledRule<'a> {
 pub struct GoalLists {
     pub wanted: Vec<u16>,
     pub unwanted: Vec<u16>,
+}
+
+impl GoalLists {
+    pub(crate) fn lent(&self) -> GivenGoal<'_>
+        ensures { given_goal result ≡ goal_listed self.now }
+    {
+        GivenGoal {
+            wanted: &self.wanted,
+            unwanted: &self.unwanted,
+        }
+    }
 }
 
 // A count, so many bytes, and what follows them.
