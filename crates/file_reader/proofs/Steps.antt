@@ -194,7 +194,14 @@ all_read p at bs o = by_found (next_field 5 5 bs) refl o
         let below = c.below in
         clash (other 5 p at bs (eqb u 5) u v refl e (omega arith))
 
+-- all records with the tag t were read, and the draft of the next kind is what they left
+pub next_table : (t : ℕ) (p q r : Problem) (at : ℕ) (file : List ℕ) (place : ℕ) → (all_fields t p at (drop at file) ≡ all_fields t q place (drop place file)) × (next_record t q (next_field t 5 (drop place file)) ≡ over) → r ≡ q → all_fields t p at (drop at file) ≡ all_fields (suc t) r place (drop place file)
+next_table t p q r at file place s e = s.0 ∙ past t q place (drop place file) s.1 ∙ ap (λ x. all_fields (suc t) x place (drop place file)) (sym e)
+
 -- what the bytes say, said of equal readings
+pub fault_is : {x y : Read} (f : ProblemFault) → x ≡ y → FaultIs y f → FaultIs x f
+fault_is f e s = elim s [ inl m ↦ inl m | inr w ↦ inr (e ∙ w.0, w.1) ]
+
 pub file_says : {x y : Read} (r : Result CodeProblem ProblemFault) → x ≡ y → FileSays y r → FileSays x r
 file_says (Ok p) e s = e ∙ s
-file_says (Err f) e s = elim s [ inl m ↦ inl m | inr w ↦ inr (e ∙ w.0, w.1) ]
+file_says (Err f) e s = fault_is f e s
