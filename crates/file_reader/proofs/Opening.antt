@@ -1,23 +1,20 @@
 -- The two opening fields, and what the bytes say after them.
-use Rattle.std.proofs.Common.{◌≡◌, ℕ, ◌+◌, Bool, true, false, List, length, drop, vec_items, Some, None, Ok, sym, refl, ap, ◌∙◌, inl, inr, arith}
+use Rattle.std.proofs.Common.{◌≡◌, ℕ, ◌+◌, Bool, true, false, List, length, drop, vec_items, None, Ok, sym, refl, ap, ◌∙◌, arith}
 use Rattle.std.proofs.lemmas.List.{length-map}
 use Rattle.std.proofs.lemmas.Bool.{cond-true, lt-ltb}
 use Rattle.refusals.specs.Limits.{most_facts}
-use Rattle.refusals.specs.declared.refusal.Refusal.{Refusal}
 use Rattle.refusals.specs.declared.refusal.Refusal.TheVariants.{OutOfRange}
 use Rattle.problem.specs.Lists.{fact_of}
-use Rattle.problem.specs.Faults.{unless, start_fault}
+use Rattle.problem.specs.Faults.{unless}
 use Rattle.runs.specs.Problems.{Problem}
 use Rattle.problem.specs.Views.{goal_view}
 use Rattle.problem.specs.Tables.{axioms_drafted, view}
 use Rattle.problem.specs.declared.drafts.Problem.{Problem as CodeProblem}
 use Rattle.problem.specs.declared.drafts.AxiomDraft.{AxiomDraft}
-use Rattle.file_format.specs.Fields.{Found, ended, short, wrong, field, next_field}
-use Rattle.file_format.specs.Reading.{Read, fault, whole, read, read_facts, read_start, started, all_fields}
-use Rattle.problem_file.specs.Layers.{of_record}
-use Rattle.problem_file.specs.Opens.{owed, Owing, FactsSay, StartSays}
-use Rattle.problem_file.specs.declared.faults.RecordFault.{RecordFault}
-use Rattle.file_reader.specs.Whole.{FaultIs, ended_with}
+use Rattle.file_format.specs.Fields.{next_field}
+use Rattle.file_format.specs.Reading.{whole, read, read_facts, read_start, started, all_fields}
+use Rattle.problem_file.specs.Opens.{FactsSay, StartSays}
+use Rattle.file_reader.specs.Whole.{ended_with}
 
 clash : {A : Type 0} → ◌≡◌ {A = ℕ} 0 1 → A
 clash e = absurd (omega arith)

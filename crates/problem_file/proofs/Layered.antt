@@ -1,5 +1,5 @@
 -- The layers that find refusals.
-use Rattle.std.proofs.Common.{◌≡◌, ℕ, Bool, true, false, ◌&&◌, ltb, List, [], ◌∷◌, length, Some, None, Option, ap, arith}
+use Rattle.std.proofs.Common.{◌≡◌, ℕ, Bool, true, false, ◌&&◌, ltb, List, [], ◌∷◌, length, Some, None, ap}
 use Rattle.refusals.specs.declared.refusal.Refusal.{Refusal}
 use Rattle.runs.specs.Problems.{Axiom, Rule, Goal, Problem}
 use Rattle.refusals.specs.Limits.{most_facts, most_axioms, most_rules, most_goals}

@@ -1,16 +1,15 @@
 -- From a record judged by itself to what the draft makes of it.
-use Rattle.std.proofs.Common.{◌≡◌, ℕ, Bool, true, false, cond, not, eqb, ◌⊎◌, List, Some, None, Ok, Err, Option, Result, unwrap_or, sym, refl, ap, ◌∙◌, inl, inr, arith}
+use Rattle.std.proofs.Common.{◌≡◌, ℕ, Bool, true, false, not, ◌⊎◌, List, Some, None, Ok, Err, Option, Result, unwrap_or, sym, refl, ap, ◌∙◌, inl, inr}
 use Rattle.refusals.specs.declared.refusal.Refusal.{Refusal}
-use Rattle.refusals.specs.declared.refusal.Refusal.TheVariants.{BadLabel, LowConclusion, RemovesAxiomFact, ForbidsConclusion, EmptyGoal, OutOfMemory}
+use Rattle.refusals.specs.declared.refusal.Refusal.TheVariants.{BadLabel, RemovesAxiomFact, ForbidsConclusion, OutOfMemory}
 use Rattle.runs.specs.Problems.{Axiom, Rule, Goal, Problem}
-use Rattle.problem.specs.Faults.{Says, unless, first, axiom_shape, axiom_law, axiom_fault, rule_shape, rule_law, rule_fault, goal_shape, goal_law, goal_fault}
+use Rattle.problem.specs.Faults.{Says, unless, first, axiom_shape, rule_shape, rule_law, rule_fault, goal_shape}
 use Rattle.runs.specs.Steps.{any}
 use Rattle.problem.specs.Views.{takes_from, bars}
-use Rattle.problem.specs.Tables.{with_axiom, with_rule, with_goal}
-use Rattle.file_format.specs.Fields.{Found, ended, short, wrong, field, label_fine, axiom_in_value, rule_in_value, goal_in_value}
-use Rattle.file_format.specs.Reading.{refused, grown, unless_refused, take_axiom, take_rule, take_goal, take_value, labelled_fault}
+use Rattle.problem.specs.Tables.{with_rule}
+use Rattle.file_format.specs.Fields.{label_fine, axiom_in_value, rule_in_value, goal_in_value}
+use Rattle.file_format.specs.Reading.{refused, grown, unless_refused, take_axiom, take_rule, take_goal, labelled_fault}
 use Rattle.problem_file.specs.declared.faults.Layer.TheVariants.{Record as AtRecord, Problem as AtProblem}
-use Rattle.problem_file.specs.declared.faults.ProblemFault.{ProblemFault}
 use Rattle.problem_file.specs.Layers.{layer_of}
 use Rattle.problem_file.specs.Next.{axiom_due, rule_due, goal_due}
 use Rattle.problem_file.specs.Records.{Drafts}

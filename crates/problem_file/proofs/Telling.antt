@@ -1,11 +1,11 @@
 -- What becomes of the value of a field, as the reader tells it.
-use Rattle.std.proofs.Common.{◌≡◌, ℕ, ◌⊎◌, List, drop, Some, None, Ok, Err, Option, Result, MatchResult, refl, sym, ap, ◌∙◌, subst, inl, inr}
+use Rattle.std.proofs.Common.{◌≡◌, ℕ, ◌⊎◌, List, drop, Some, None, Ok, Err, Option, Result, MatchResult, refl, sym, ap, ◌∙◌, inl, inr}
 use Rattle.std.proofs.lemmas.Bool.{eq-eqb, cond-true}
 use Rattle.refusals.specs.declared.refusal.Refusal.{Refusal}
 use Rattle.refusals.specs.declared.refusal.Refusal.TheVariants.{OutOfMemory}
 use Rattle.runs.specs.Problems.{Problem}
 use Rattle.file_format.specs.Fields.{Found, field}
-use Rattle.file_format.specs.Reading.{Taken, refused, grown, take_value}
+use Rattle.file_format.specs.Reading.{refused, take_value}
 use Rattle.problem_file.specs.declared.faults.Layer.TheVariants.{Record as AtRecord, Problem as AtProblem}
 use Rattle.problem_file.specs.declared.faults.RecordFault.{RecordFault}
 use Rattle.problem_file.specs.declared.faults.ProblemFault.{ProblemFault}
@@ -14,7 +14,7 @@ use Rattle.problem_file.specs.declared.field.Tag.{Tag}
 use Rattle.problem_file.specs.declared.field.Field.{Field}
 use Rattle.problem_file.specs.Says.{tag_number, FieldSays}
 use Rattle.problem_file.specs.Layers.{of_record, layer_of}
-use Rattle.problem_file.specs.Next.{Next, over, stopped, goes, with_value, next_record, Faulty, Took}
+use Rattle.problem_file.specs.Next.{stopped, with_value, next_record, Faulty}
 use Rattle.problem_file.specs.Records.{Drafts, Judges}
 
 pub mapped : {T E F : Type 0} (r : Result T E) (f : F) (P : E → Type 0) → MatchResult r (λ x. ◌≡◌ {A = Result T F} (Err f) (Ok x)) P → (e : E) × (r ≡ Err e) × P e

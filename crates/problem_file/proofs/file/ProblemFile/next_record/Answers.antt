@@ -1,4 +1,4 @@
-use Rattle.std.proofs.Common.{◌≡◌, Some, Err, Ok, drop, refl, subst, rules}
+use Rattle.std.proofs.Common.{◌≡◌, Ok, drop, subst, rules}
 use Rattle.std.proofs.lemmas.Result.{err_from_is_err_and}
 use Rattle.file_format.specs.Fields.{next_field}
 use Rattle.problem_file.specs.declared.faults.Layer.TheVariants.{Problem}
