@@ -7,7 +7,7 @@ use Rattle.refusals.specs.declared.refusal.Refusal.{Refusal}
 use Rattle.refusals.specs.declared.refusal.Refusal.TheVariants.{OutOfMemory}
 use Rattle.problem_file.specs.declared.faults.Layer.TheVariants.{Record as AtRecord, Problem as AtProblem}
 use Rattle.problem_file.specs.Layers.{of_record, layer_of}
-use Rattle.problem_file.specs.Lists.{axiom_listed, rule_listed, goal_listed}
+use Rattle.problem_file.specs.Lists.{axiom_listed, labelled, goal_listed}
 use Rattle.problem_file.specs.Next.{Next, over, goes, with_value, next_record, Faulty, Took}
 use Rattle.problem_file.specs.declared.faults.RecordFault.{RecordFault}
 use Rattle.problem_file.specs.declared.faults.ProblemFault.{ProblemFault}
@@ -21,7 +21,7 @@ abbrev pub HoldsAxiom : List ℕ → AxiomLists → Type 0
 HoldsAxiom v a = axiom_in_value v ≡ Some (axiom_listed a)
 
 abbrev pub HoldsRule : List ℕ → LabelledRule → Type 0
-HoldsRule v r = rule_in_value v ≡ Some (rule_listed r.rule, r.label.now)
+HoldsRule v r = rule_in_value v ≡ Some (labelled r)
 
 abbrev pub HoldsGoal : List ℕ → GoalLists → Type 0
 HoldsGoal v g = goal_in_value v ≡ Some (goal_listed g)

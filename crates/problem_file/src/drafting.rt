@@ -17,7 +17,8 @@ use problem::drafts::{AxiomDraft, GoalDraft, RuleDraft};
 use refusals::refusal::Refusal;
 use std::alloc::Global;
 
-// A draft, and the tag of the fields that add to it.
+// A draft, and the tag of the fields that add to it. It is no part of `Drafting`: a constant there gets no proof where
+// the record has the lifetime.
 pub trait Tagged: Drop {
     const TAG: Tag;
 

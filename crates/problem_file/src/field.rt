@@ -36,7 +36,7 @@ impl TryFrom<u8> for Tag {
 }
 
 // A field, with its value as the part of the file that it is.
-#[derive(Clone, Copy, Debug)]
+#[derive(Clone, Copy, Debug, PartialEq, Eq)]
 pub struct Field<'a> {
     pub tag: Tag,
     pub value: &'a [u8],
@@ -52,7 +52,7 @@ fn first_field(bytes: &[u8], low: Tag, high: Tag) -> Result<Option<Field<'_>>, R
             let length = usize::from(u16::from_be_bytes([*length_high, *length_low]));
             let value = rest.get(..length).ok_or(Refusal::CutShort)?;
             let tag = Tag::try_from(*tag)?;
-            if tag < low || high < tag {
+            if !(low..=high).contains(&tag) {
                 return Err(Refusal::WrongTag);
             }
             Ok(Some(Field { tag, value }))

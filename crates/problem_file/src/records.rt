@@ -1,8 +1,8 @@
 // Records as plain lists, read from the values of fields.
 ghost use Rattle.std.specs.Prelude.{◌≡◌, MatchResult};
-ghost use Rattle.file_format.specs.Fields.{counted};
+ghost use Rattle.file_format.specs.Fields.{counted, axiom_in_value, rule_in_value, goal_in_value};
 ghost use Rattle.problem.specs.Given.{given_axiom, given_rule, given_goal};
-ghost use Rattle.problem_file.specs.Lists.{axiom_listed, rule_listed, goal_listed, Parts, AxiomListsSay, RuleListsSay, GoalListsSay};
+ghost use Rattle.problem_file.specs.Lists.{axiom_listed, rule_listed, labelled, goal_listed, Parts, ListsSay};
 ghost use Rattle.refusals.specs.declared.refusal.Refusal.TheVariants.{OutOfMemory};
 
 use problem::given::{GivenAxiom, GivenGoal, GivenRule};
@@ -92,7 +92,7 @@ pub(crate) fn facts(heap: Global, bytes: &[u8]) -> Result<Vec<u16>, Refusal>
 }
 
 pub(crate) fn axiom_lists(heap: Global, value: &[u8]) -> Result<AxiomLists, Refusal>
-    ensures { AxiomListsSay value.now result }
+    ensures { ListsSay axiom_listed (axiom_in_value value.now) result }
 {
     let (premises, rest) = counted(value).ok_or(Refusal::WrongLength)?;
     let [conclusion] = rest else {
@@ -105,7 +105,7 @@ pub(crate) fn axiom_lists(heap: Global, value: &[u8]) -> Result<AxiomLists, Refu
 }
 
 pub(crate) fn rule_lists(heap: Global, value: &[u8]) -> Result<LabelledRule<'_>, Refusal>
-    ensures { RuleListsSay value.now result }
+    ensures { ListsSay labelled (rule_in_value value.now) result }
 {
     let (needed, rest) = counted(value).ok_or(Refusal::WrongLength)?;
     let (forbidden, rest) = counted(rest).ok_or(Refusal::WrongLength)?;
@@ -119,7 +119,7 @@ pub(crate) fn rule_lists(heap: Global, value: &[u8]) -> Result<LabelledRule<'_>,
 }
 
 pub(crate) fn goal_lists(heap: Global, value: &[u8]) -> Result<GoalLists, Refusal>
-    ensures { GoalListsSay value.now result }
+    ensures { ListsSay goal_listed (goal_in_value value.now) result }
 {
     let (wanted, rest) = counted(value).ok_or(Refusal::WrongLength)?;
     let (unwanted, rest) = counted(rest).ok_or(Refusal::WrongLength)?;
