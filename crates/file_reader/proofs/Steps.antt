@@ -1,14 +1,14 @@
 -- One field after another: what the bytes say from a place on.
 use Rattle.std.proofs.Common.{◌≡◌, ℕ, zero, suc, ◌+◌, ◌*◌, ◌<◌, ◌≤◌, Bool, true, false, cond, ◌&&◌, eqb, leb, List, [], ◌∷◌, length, take, drop, Ok, Err, Result, sym, refl, ap, ◌∙◌, subst, inl, inr, arith}
 use Rattle.std.proofs.lemmas.List.{length-drop, length-take-le, drop-drop}
-use Rattle.std.proofs.lemmas.Bool.{eqb-true, leb-true, le-leb, and_parts, and_from, cond-true}
+use Rattle.std.proofs.lemmas.Bool.{eqb-true, eqb-false, leb-true, le-leb, and_parts, and_from, cond-true}
 use Rattle.refusals.specs.declared.refusal.Refusal.{Refusal}
 use Rattle.runs.specs.Problems.{Problem}
 use Rattle.file_format.specs.Fields.{Found, ended, short, wrong, field, next_field}
 use Rattle.file_format.specs.Reading.{Taken, refused, grown, take_value, Read, fault, go_on, after, fields, all_fields}
 use Rattle.problem_file.specs.Next.{Next, over, stopped, goes, with_value, next_record, Faulty}
 use Rattle.problem_file.specs.declared.faults.ProblemFault.{ProblemFault}
-use Rattle.file_reader.specs.Whole.{FaultIs, FileSays}
+use Rattle.file_reader.specs.Whole.{FaultIs, FileSays, ended_with}
 use Rattle.problem.specs.declared.drafts.Problem.{Problem as CodeProblem}
 
 clash : {A : Type 0} → ◌≡◌ {A = ℕ} 0 1 → A
@@ -143,7 +143,65 @@ record_told t p q at file v place x same g ends =
     let where_to : drop (3 + length v) (drop at file) ≡ drop place file = drop-drop (3 + length v) at file ∙ ap (λ i. drop i file) (omega arith) in
     same ∙ on ∙ ap (all_fields t q (at + 3 + length v)) where_to ∙ ap (λ i. all_fields t q i (drop place file)) (sym ends)
 
+-- nothing stands there, whatever the limits
+ended_tagged : (b c : Bool) (t : ℕ) (v cs : List ℕ) → cond b (cond c (field t v cs) wrong) short ≡ ended → ◌≡◌ {A = ℕ} 0 1
+ended_tagged false c t v cs e = cc
+ended_tagged true false t v cs e = cc
+ended_tagged true true t v cs e = cc
+
+ended_again : (low l : ℕ) (bs : List ℕ) → next_field low 5 bs ≡ ended → next_field l 5 bs ≡ ended
+ended_again low l [] e = refl
+ended_again low l (a ∷ []) e = clash (cc)
+ended_again low l (a ∷ b ∷ []) e = clash (cc)
+ended_again low l (t ∷ h ∷ k ∷ bs) e = clash (ended_tagged _ _ t _ _ e)
+
+module _ (t : ℕ) (p : Problem) (at : ℕ) (bs : List ℕ) where
+  not_over : (v : List ℕ) (x : Taken) → with_value v x ≡ over → ◌≡◌ {A = ℕ} 0 1
+  not_over v (refused r) e = cc
+  not_over v (grown q) e = cc
+
+  -- another field comes, or none
+  other : (b : Bool) (u : ℕ) (v : List ℕ) → eqb u t ≡ b → cond b (with_value v (take_value t p v)) over ≡ over → u ≡ t → ◌≡◌ {A = ℕ} 0 1
+  other true u v g e s = not_over v (take_value t p v) e
+  other false u v g e s = absurd (eqb-false u t g s)
+
+  -- no such record comes: the next kind may
+  pub past : next_record t p (next_field t 5 bs) ≡ over → all_fields t p at bs ≡ all_fields (suc t) p at bs
+  past o = by_found (next_field t 5 bs) refl o
+    where
+      by_found : (found : Found) → next_field t 5 bs ≡ found → next_record t p found ≡ over → all_fields t p at bs ≡ all_fields (suc t) p at bs
+      by_found ended f e = ap (after (fields (length bs)) p at) (f ∙ sym (ended_again t (suc t) bs f))
+      by_found short f e = clash (cc)
+      by_found wrong f e = clash (cc)
+      by_found (field u v cs) f e =
+          let c = cut_at t 5 u v cs bs f in
+          let apart : u ≡ t → ⊥ = λ s. clash (other (eqb u t) u v refl e s) in
+          let above = c.above in
+          let next : suc t ≤ u = omega arith in
+          ap (after (fields (length bs)) p at) (f ∙ sym (c.again (suc t) 5 next c.below))
+
+-- no further goal comes: the file is at its end
+pub all_read : (p : Problem) (at : ℕ) (bs : List ℕ) → next_record 5 p (next_field 5 5 bs) ≡ over → all_fields 5 p at bs ≡ ended_with p at
+all_read p at bs o = by_found (next_field 5 5 bs) refl o
+  where
+    by_found : (found : Found) → next_field 5 5 bs ≡ found → next_record 5 p found ≡ over → all_fields 5 p at bs ≡ ended_with p at
+    by_found ended f e = ap (after (fields (length bs)) p at) f
+    by_found short f e = clash (cc)
+    by_found wrong f e = clash (cc)
+    by_found (field u v cs) f e =
+        let c = cut_at 5 5 u v cs bs f in
+        let above = c.above in
+        let below = c.below in
+        clash (other 5 p at bs (eqb u 5) u v refl e (omega arith))
+
+-- all records with the tag t were read, and the draft of the next kind is what they left
+pub next_table : (t : ℕ) (p q r : Problem) (at : ℕ) (file : List ℕ) (place : ℕ) → (all_fields t p at (drop at file) ≡ all_fields t q place (drop place file)) × (next_record t q (next_field t 5 (drop place file)) ≡ over) → r ≡ q → all_fields t p at (drop at file) ≡ all_fields (suc t) r place (drop place file)
+next_table t p q r at file place s e = s.0 ∙ past t q place (drop place file) s.1 ∙ ap (λ x. all_fields (suc t) x place (drop place file)) (sym e)
+
 -- what the bytes say, said of equal readings
+pub fault_is : {x y : Read} (f : ProblemFault) → x ≡ y → FaultIs y f → FaultIs x f
+fault_is f e s = elim s [ inl m ↦ inl m | inr w ↦ inr (e ∙ w.0, w.1) ]
+
 pub file_says : {x y : Read} (r : Result CodeProblem ProblemFault) → x ≡ y → FileSays y r → FileSays x r
 file_says (Ok p) e s = e ∙ s
-file_says (Err f) e s = elim s [ inl m ↦ inl m | inr w ↦ inr (e ∙ w.0, w.1) ]
+file_says (Err f) e s = fault_is f e s

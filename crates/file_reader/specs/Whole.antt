@@ -1,10 +1,12 @@
 -- What reading a whole file answers, by what its bytes say.
-use Rattle.std.specs.Prelude.{◌≡◌, ℕ, suc, cond, ◌⊎◌, List, length, drop, Ok, Err, Result, nat_lt}
+use Rattle.std.specs.Prelude.{◌≡◌, ℕ, cond, ◌⊎◌, List, length, drop, Ok, Err, Result, nat_lt}
 use Rattle.refusals.specs.declared.refusal.Refusal.TheVariants.{Missing, OutOfMemory}
 use Rattle.runs.specs.Problems as runs
 use Rattle.problem.specs.Tables.{view}
 use Rattle.problem.specs.declared.drafts.Problem.{Problem}
+use Rattle.file_format.specs.Fields.{next_field}
 use Rattle.file_format.specs.Reading.{Read, whole, fault, all_fields}
+use Rattle.problem_file.specs.Next.{over, next_record}
 use Rattle.problem_file.specs.Layers.{layer_of}
 use Rattle.problem_file.specs.declared.faults.ProblemFault.{ProblemFault}
 
@@ -21,12 +23,7 @@ FileSays x (Err e) = FaultIs x e
 abbrev pub ended_with : runs.Problem → ℕ → Read
 ended_with p at = cond (nat_lt 0 (length p.goals)) (whole p) (fault Missing at)
 
--- one table of records, with the tag t, from a place on: what the bytes say from there is what they say of the tables and the place afterwards
-abbrev pub TableSays : List ℕ → ℕ → runs.Problem → ℕ → Result (Unit {0}) ProblemFault → runs.Problem → ℕ → Type 0
-TableSays file t p at (Ok _) q after = all_fields t p at (drop at file) ≡ all_fields (suc t) q after (drop after file)
-TableSays file t p at (Err e) q after = FaultIs (all_fields t p at (drop at file)) e
-
--- the last table, to the end of the file
-abbrev pub GoalsSay : List ℕ → runs.Problem → ℕ → Result (Unit {0}) ProblemFault → runs.Problem → ℕ → Type 0
-GoalsSay file p at (Ok _) q after = all_fields 5 p at (drop at file) ≡ ended_with q after
-GoalsSay file p at (Err e) q after = FaultIs (all_fields 5 p at (drop at file)) e
+-- all records with the tag t, from a place on: what the bytes say from there is what they say of the tables and the place afterwards, and there no such record comes
+abbrev pub TableSays : {D : Type 0} → (D → runs.Problem) → List ℕ → ℕ → runs.Problem → ℕ → Result D ProblemFault → ℕ → Type 0
+TableSays drafted file t p at (Ok d) after = (all_fields t p at (drop at file) ≡ all_fields t (drafted d) after (drop after file)) × (next_record t (drafted d) (next_field t 5 (drop after file)) ≡ over)
+TableSays drafted file t p at (Err e) after = FaultIs (all_fields t p at (drop at file)) e

@@ -1,5 +1,3 @@
-pub mod Headers
-pub mod Counts
 pub mod Layered
 pub mod Taking
 pub mod Telling

@@ -1,87 +1,43 @@
--- What the draft makes of a judged record, as the reader tells it.
-use Rattle.std.proofs.Common.{◌≡◌, ℕ, ◌⊎◌, List, Some, None, Ok, Option, unwrap_or, sym, ap, ◌∙◌, subst, inl, inr}
+-- What becomes of the value of a field, as the reader tells it.
+use Rattle.std.proofs.Common.{◌≡◌, ℕ, ◌⊎◌, List, drop, Some, None, Ok, Err, Option, Result, MatchResult, refl, sym, ap, ◌∙◌, inl, inr}
+use Rattle.std.proofs.lemmas.Bool.{eq-eqb, cond-true}
 use Rattle.refusals.specs.declared.refusal.Refusal.{Refusal}
 use Rattle.refusals.specs.declared.refusal.Refusal.TheVariants.{OutOfMemory}
-use Rattle.runs.specs.Problems.{Axiom, Rule, Goal, Problem}
-use Rattle.problem.specs.Faults.{axiom_fault, rule_fault, goal_fault}
-use Rattle.problem.specs.Tables.{with_axiom, with_rule, with_goal}
-use Rattle.file_format.specs.Fields.{Found, axiom_in_value, rule_in_value, goal_in_value}
-use Rattle.problem_file.specs.declared.faults.Layer.TheVariants.{Problem as AtProblem}
+use Rattle.runs.specs.Problems.{Problem}
+use Rattle.file_format.specs.Fields.{Found, field}
+use Rattle.file_format.specs.Reading.{refused, take_value}
+use Rattle.problem_file.specs.declared.faults.Layer.TheVariants.{Record as AtRecord, Problem as AtProblem}
+use Rattle.problem_file.specs.declared.faults.RecordFault.{RecordFault}
 use Rattle.problem_file.specs.declared.faults.ProblemFault.{ProblemFault}
 use Rattle.problem_file.specs.declared.records.Placed.{Placed}
-use Rattle.problem_file.specs.declared.records.AxiomLists.{AxiomLists}
-use Rattle.problem_file.specs.declared.records.LabelledRule.{LabelledRule}
-use Rattle.problem_file.specs.declared.records.GoalLists.{GoalLists}
-use Rattle.problem_file.specs.Layers.{layer_of}
-use Rattle.problem_file.specs.Lists.{axiom_listed, rule_listed, goal_listed}
-use Rattle.problem_file.specs.Next.{Next, stopped, goes, axiom_due, rule_due, goal_due, judged, next_record, Faulty, Took}
-use Rattle.problem_file.specs.Records.{HoldsAxiom, HoldsRule, HoldsGoal, Judges, Takes}
-use Rattle.problem_file.proofs.Taking.{gone_on, axiom_agrees, rule_agrees, goal_agrees, axiom_taken, axiom_not, rule_taken, rule_not, goal_taken, goal_not}
+use Rattle.problem_file.specs.declared.field.Tag.{Tag}
+use Rattle.problem_file.specs.declared.field.Field.{Field}
+use Rattle.problem_file.specs.Says.{tag_number, FieldSays}
+use Rattle.problem_file.specs.Layers.{of_record, layer_of}
+use Rattle.problem_file.specs.Next.{stopped, with_value, next_record, Faulty}
+use Rattle.problem_file.specs.Records.{Drafts, Judges}
 
--- a refusal of the draft, as a fault of the problem layer
-told : {A : Type 0} {next : Next A} (at : ℕ) (e : Refusal) (f : ProblemFault) → (f.refusal ≡ e) × (f.layer ≡ AtProblem) × (f.at ≡ at) → (e ≡ OutOfMemory) ⊎ ((next ≡ stopped e) × (AtProblem ≡ layer_of e)) → Faulty at next f
-told at e f is why = record { stands = is.2; due = elim why [ inl m ↦ inl (is.0 ∙ m) | inr s ↦ inr (s.0 ∙ ap stopped (sym is.0), is.1 ∙ s.1 ∙ ap layer_of (sym is.0)) ] }
+pub mapped : {T E F : Type 0} (r : Result T E) (f : F) (P : E → Type 0) → MatchResult r (λ x. ◌≡◌ {A = Result T F} (Err f) (Ok x)) P → (e : E) × (r ≡ Err e) × P e
+mapped (Ok x) f P c = absurd (cc)
+mapped (Err e) f P c = (e, refl, c)
 
-module _ (file : List ℕ) (at : ℕ) (p : Problem) (found : Found) (after : ℕ) where
-  abbrev axiom_judged : Next (List ℕ)
-  axiom_judged = judged 3 (λ v. axiom_due p (axiom_in_value v)) found
+-- a field with the tag that is read
+pub next_is : (t : ℕ) (p : Problem) (v bs : List ℕ) → next_record t p (field t v bs) ≡ with_value v (take_value t p v)
+next_is t p v bs = cond-true _ _ _ (eq-eqb t t refl)
 
-  pub axiom_goes : (o : Option (Placed AxiomLists)) (x : Placed AxiomLists) (a : Axiom) (q : Problem) (place : ℕ) → o ≡ Some x → a ≡ axiom_listed x.«record» → Judges HoldsAxiom file at axiom_judged (Ok o) after → axiom_fault p a ≡ None → q ≡ with_axiom p a → place ≡ after → Takes HoldsAxiom file at (next_record 3 p found) p (Ok (Some x)) q place
-  axiom_goes o x a q place one is j f grown there =
-      let s = subst (λ z. Judges HoldsAxiom file at axiom_judged (Ok z) after) one j in
-      let v = s.0 in
-      let g = gone_on 3 p (λ v. axiom_due p (axiom_in_value v)) (axiom_agrees p) found v s.1 in
-      let d = g.1 in
-      let i : axiom_in_value v ≡ Some a = s.2.holds ∙ ap Some (sym is) in
-      (v, g.0 ∙ axiom_taken p v a i f ∙ ap (λ z. goes (z, v)) (sym grown), subst (Took HoldsAxiom file at v x) (sym there) s.2)
+-- a refusal of its value by itself
+pub read_faulty : (t : Tag) (x : Field) (p : Problem) (due : Option Refusal) (file : List ℕ) (at after : ℕ) (found : Found) (e : Refusal) (f : RecordFault) → FieldSays file at found (Ok (Some x)) after → x.tag ≡ t → (f.refusal ≡ e) × (f.layer ≡ AtRecord) × (f.at ≡ at) → (e ≡ OutOfMemory) ⊎ ((due ≡ Some e) × (take_value (tag_number t) p x.value.now ≡ refused e) × (AtRecord ≡ layer_of e)) → Faulty at (next_record (tag_number t) p found) (of_record f)
+read_faulty t x p due file at after found e f says same is why =
+    let here : next_record (tag_number t) p found ≡ with_value x.value.now (take_value (tag_number t) p x.value.now) = ap (next_record (tag_number t) p) says.0 ∙ ap (λ u. next_record (tag_number t) p (field (tag_number u) x.value.now (drop after file))) same ∙ next_is (tag_number t) p x.value.now (drop after file) in
+    record {
+      stands = is.2;
+      due = elim why [ inl m ↦ inl (is.0 ∙ m) | inr s ↦ inr (here ∙ ap (with_value x.value.now) s.1 ∙ ap stopped (sym is.0), is.1 ∙ s.2 ∙ ap layer_of (sym is.0)) ];
+    }
 
-  pub axiom_stays : (o : Option (Placed AxiomLists)) (x : Placed AxiomLists) (a : Axiom) (e : Refusal) (t : ProblemFault) → o ≡ Some x → a ≡ axiom_listed x.«record» → Judges HoldsAxiom file at axiom_judged (Ok o) after → e ≡ unwrap_or (axiom_fault p a) OutOfMemory → (t.refusal ≡ e) × (t.layer ≡ AtProblem) × (t.at ≡ at) → Faulty at (next_record 3 p found) t
-  axiom_stays o x a e t one is j k told-as =
-      let s = subst (λ z. Judges HoldsAxiom file at axiom_judged (Ok z) after) one j in
-      let v = s.0 in
-      let g = gone_on 3 p (λ v. axiom_due p (axiom_in_value v)) (axiom_agrees p) found v s.1 in
-      let d = g.1 in
-      let i : axiom_in_value v ≡ Some a = s.2.holds ∙ ap Some (sym is) in
-      told at e t told-as (elim (axiom_not p v a e i d k) [ inl m ↦ inl m | inr n ↦ inr (g.0 ∙ n.0, n.1) ])
-
-  abbrev rule_judged : Next (List ℕ)
-  rule_judged = judged 4 (λ v. rule_due p (rule_in_value v)) found
-
-  pub rule_goes : (o : Option (Placed LabelledRule)) (x : Placed LabelledRule) (a : Rule) (q : Problem) (place : ℕ) → o ≡ Some x → a ≡ rule_listed x.«record».rule → Judges HoldsRule file at rule_judged (Ok o) after → rule_fault p a ≡ None → q ≡ with_rule p a → place ≡ after → Takes HoldsRule file at (next_record 4 p found) p (Ok (Some x)) q place
-  rule_goes o x a q place one is j f grown there =
-      let s = subst (λ z. Judges HoldsRule file at rule_judged (Ok z) after) one j in
-      let v = s.0 in
-      let g = gone_on 4 p (λ v. rule_due p (rule_in_value v)) (rule_agrees p) found v s.1 in
-      let d = g.1 in
-      let i : rule_in_value v ≡ Some (a, x.«record».label.now) = s.2.holds ∙ ap (λ y. Some (y, x.«record».label.now)) (sym is) in
-      (v, g.0 ∙ rule_taken p v a x.«record».label.now i d f ∙ ap (λ z. goes (z, v)) (sym grown), subst (Took HoldsRule file at v x) (sym there) s.2)
-
-  pub rule_stays : (o : Option (Placed LabelledRule)) (x : Placed LabelledRule) (a : Rule) (e : Refusal) (t : ProblemFault) → o ≡ Some x → a ≡ rule_listed x.«record».rule → Judges HoldsRule file at rule_judged (Ok o) after → e ≡ unwrap_or (rule_fault p a) OutOfMemory → (t.refusal ≡ e) × (t.layer ≡ AtProblem) × (t.at ≡ at) → Faulty at (next_record 4 p found) t
-  rule_stays o x a e t one is j k told-as =
-      let s = subst (λ z. Judges HoldsRule file at rule_judged (Ok z) after) one j in
-      let v = s.0 in
-      let g = gone_on 4 p (λ v. rule_due p (rule_in_value v)) (rule_agrees p) found v s.1 in
-      let d = g.1 in
-      let i : rule_in_value v ≡ Some (a, x.«record».label.now) = s.2.holds ∙ ap (λ y. Some (y, x.«record».label.now)) (sym is) in
-      told at e t told-as (elim (rule_not p v a x.«record».label.now e i d k) [ inl m ↦ inl m | inr n ↦ inr (g.0 ∙ n.0, n.1) ])
-
-  abbrev goal_judged : Next (List ℕ)
-  goal_judged = judged 5 (λ v. goal_due p (goal_in_value v)) found
-
-  pub goal_goes : (o : Option (Placed GoalLists)) (x : Placed GoalLists) (a : Goal) (q : Problem) (place : ℕ) → o ≡ Some x → a ≡ goal_listed x.«record» → Judges HoldsGoal file at goal_judged (Ok o) after → goal_fault p a ≡ None → q ≡ with_goal p a → place ≡ after → Takes HoldsGoal file at (next_record 5 p found) p (Ok (Some x)) q place
-  goal_goes o x a q place one is j f grown there =
-      let s = subst (λ z. Judges HoldsGoal file at goal_judged (Ok z) after) one j in
-      let v = s.0 in
-      let g = gone_on 5 p (λ v. goal_due p (goal_in_value v)) (goal_agrees p) found v s.1 in
-      let d = g.1 in
-      let i : goal_in_value v ≡ Some a = s.2.holds ∙ ap Some (sym is) in
-      (v, g.0 ∙ goal_taken p v a i f ∙ ap (λ z. goes (z, v)) (sym grown), subst (Took HoldsGoal file at v x) (sym there) s.2)
-
-  pub goal_stays : (o : Option (Placed GoalLists)) (x : Placed GoalLists) (a : Goal) (e : Refusal) (t : ProblemFault) → o ≡ Some x → a ≡ goal_listed x.«record» → Judges HoldsGoal file at goal_judged (Ok o) after → e ≡ unwrap_or (goal_fault p a) OutOfMemory → (t.refusal ≡ e) × (t.layer ≡ AtProblem) × (t.at ≡ at) → Faulty at (next_record 5 p found) t
-  goal_stays o x a e t one is j k told-as =
-      let s = subst (λ z. Judges HoldsGoal file at goal_judged (Ok z) after) one j in
-      let v = s.0 in
-      let g = gone_on 5 p (λ v. goal_due p (goal_in_value v)) (goal_agrees p) found v s.1 in
-      let d = g.1 in
-      let i : goal_in_value v ≡ Some a = s.2.holds ∙ ap Some (sym is) in
-      told at e t told-as (elim (goal_not p v a e i d k) [ inl m ↦ inl m | inr n ↦ inr (g.0 ∙ n.0, n.1) ])
+-- a record that was judged, given to the draft and refused
+pub take_faulty : {X : Type 0} (holds : List ℕ → X → Type 0) (file : List ℕ) (at t : ℕ) (p q : Problem) (due : List ℕ → Option Refusal) (found : Found) (x : Placed X) (after : ℕ) (e : Refusal) (f : ProblemFault) → Judges holds file at t p due found (Ok (Some x)) after → ((v : List ℕ) → holds v x.«record» → due v ≡ None → Drafts (take_value t p v) p (Err e) q) → (f.refusal ≡ e) × (f.layer ≡ AtProblem) × (f.at ≡ x.at) → Faulty at (next_record t p found) f × (q ≡ p)
+take_faulty holds file at t p q due found x after e f judged takes is =
+    let v = judged.0 in
+    let w = takes v judged.3.holds judged.2 in
+    let why = elim w.0 as (λ _. (f.refusal ≡ OutOfMemory) ⊎ ((next_record t p found ≡ stopped f.refusal) × (f.layer ≡ layer_of f.refusal))) [ inl m ↦ inl (is.0 ∙ m) | inr s ↦ inr (judged.1 ∙ ap (with_value v) s.0 ∙ ap stopped (sym is.0), is.1 ∙ s.1 ∙ ap layer_of (sym is.0)) ] in
+    (record { stands = is.2 ∙ judged.3.begins; due = why }, w.1)

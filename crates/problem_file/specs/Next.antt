@@ -23,10 +23,6 @@ tagged_next t use_of short = stopped CutShort
 tagged_next t use_of wrong = stopped WrongTag
 tagged_next t use_of (field u v bs) = cond (u == t) (use_of v) over
 
-abbrev pub unless_due : {A : Type 0} → Option Refusal → A → Next A
-unless_due None a = goes a
-unless_due (Some r) a = stopped r
-
 -- why a value is refused by itself and by its table's room
 abbrev pub axiom_due : Problem → Option Axiom → Option Refusal
 axiom_due p None = Some WrongLength
@@ -39,10 +35,6 @@ rule_due p (Some e) = first (rule_shape p e.0) (unless (label_fine e.1) BadLabel
 abbrev pub goal_due : Problem → Option Goal → Option Refusal
 goal_due p None = Some WrongLength
 goal_due p (Some g) = goal_shape p g
-
--- the value of the next field, if it is not refused by itself
-abbrev pub judged : ℕ → (List ℕ → Option Refusal) → Found → Next (List ℕ)
-judged t due found = tagged_next t (λ v. unless_due (due v) v) found
 
 abbrev pub with_value : List ℕ → Taken → Next (Problem × List ℕ)
 with_value v (refused r) = stopped r

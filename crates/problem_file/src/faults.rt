@@ -5,7 +5,7 @@ ghost use Rattle.problem_file.specs.Layers.{of_field, of_record};
 use refusals::refusal::Refusal;
 
 // The layer that found a fault.
-#[derive(Clone, Copy, Debug, PartialEq)]
+#[derive(Clone, Copy, Debug, PartialEq, Eq)]
 pub enum Layer {
     Field,
     Record,
@@ -13,14 +13,14 @@ pub enum Layer {
 }
 
 // Refusals 1 to 3, with the byte of the field's tag, or the file's length for 3.
-#[derive(Clone, Copy, Debug)]
+#[derive(Clone, Copy, Debug, PartialEq, Eq)]
 pub struct FieldFault {
     pub refusal: Refusal,
     pub at: usize,
 }
 
 // Refusals 4 to 8 and 13, and those of the fields.
-#[derive(Clone, Copy, Debug)]
+#[derive(Clone, Copy, Debug, PartialEq, Eq)]
 pub struct RecordFault {
     pub refusal: Refusal,
     pub layer: Layer,
@@ -28,7 +28,7 @@ pub struct RecordFault {
 }
 
 // Refusals 9 to 12, and those of the records.
-#[derive(Clone, Copy, Debug)]
+#[derive(Clone, Copy, Debug, PartialEq, Eq)]
 pub struct ProblemFault {
     pub refusal: Refusal,
     pub layer: Layer,

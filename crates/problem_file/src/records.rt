@@ -1,9 +1,11 @@
 // Records as plain lists, read from the values of fields.
 ghost use Rattle.std.specs.Prelude.{◌≡◌, MatchResult};
-ghost use Rattle.file_format.specs.Fields.{counted};
-ghost use Rattle.problem_file.specs.Lists.{Parts, AxiomListsSay, RuleListsSay, GoalListsSay};
+ghost use Rattle.file_format.specs.Fields.{counted, axiom_in_value, rule_in_value, goal_in_value};
+ghost use Rattle.problem.specs.Given.{given_axiom, given_rule, given_goal};
+ghost use Rattle.problem_file.specs.Lists.{axiom_listed, rule_listed, labelled, goal_listed, Parts, ListsSay};
 ghost use Rattle.refusals.specs.declared.refusal.Refusal.TheVariants.{OutOfMemory};
 
+use problem::given::{GivenAxiom, GivenGoal, GivenRule};
 use refusals::refusal::Refusal;
 use std::alloc::Global;
 
@@ -20,11 +22,34 @@ pub struct AxiomLists {
     pub conclusion: u16,
 }
 
+impl AxiomLists {
+    pub(crate) fn lent(&self) -> GivenAxiom<'_>
+        ensures { given_axiom result ≡ axiom_listed self.now }
+    {
+        GivenAxiom {
+            premises: &self.premises,
+            conclusion: self.conclusion,
+        }
+    }
+}
+
 #[derive(Drop)]
 pub struct RuleLists {
     pub needed: Vec<u16>,
     pub forbidden: Vec<u16>,
     pub left: Vec<u16>,
+}
+
+impl RuleLists {
+    pub(crate) fn lent(&self) -> GivenRule<'_>
+        ensures { given_rule result ≡ rule_listed self.now }
+    {
+        GivenRule {
+            needed: &self.needed,
+            forbidden: &self.forbidden,
+            left: &self.left,
+        }
+    }
 }
 
 // A rule with its label, which is handed on as the part of the file that it is.
@@ -40,87 +65,69 @@ pub struct GoalLists {
     pub unwanted: Vec<u16>,
 }
 
+impl GoalLists {
+    pub(crate) fn lent(&self) -> GivenGoal<'_>
+        ensures { given_goal result ≡ goal_listed self.now }
+    {
+        GivenGoal {
+            wanted: &self.wanted,
+            unwanted: &self.unwanted,
+        }
+    }
+}
+
 // A count, so many bytes, and what follows them.
-fn counted<'a>(bytes: &'a [u8]) -> Option<(&'a [u8], &'a [u8])>
+fn counted(bytes: &[u8]) -> Option<(&[u8], &[u8])>
     ensures { Parts (counted bytes.now) result }
 {
-    if bytes.len() == 0 {
-        return None;
-    }
-    let count = bytes[0] as usize;
-    if bytes.len() - 1 < count {
-        return None;
-    }
-    Some((&bytes[1..1 + count], &bytes[1 + count..]))
+    let (count, rest) = bytes.split_first()?;
+    rest.split_at_checked(usize::from(*count))
 }
 
 // The facts that bytes name.
 pub(crate) fn facts(heap: Global, bytes: &[u8]) -> Result<Vec<u16>, Refusal>
     ensures { MatchResult result (λ v. v.items ≡ bytes.now) (λ e. e ≡ OutOfMemory) }
 {
-    let mut facts = Vec::new(heap);
-    for b in bytes {
-        if facts.push(*b as u16).is_err() {
-            return Err(Refusal::OutOfMemory);
-        }
-    }
-    Ok(facts)
+    Ok(bytes.iter().map(|b| u16::from(*b)).collect(heap)?)
 }
 
 pub(crate) fn axiom_lists(heap: Global, value: &[u8]) -> Result<AxiomLists, Refusal>
-    ensures { AxiomListsSay value.now result }
+    ensures { ListsSay axiom_listed (axiom_in_value value.now) result }
 {
-    let Some((premises, rest)) = counted(value) else {
+    let (premises, rest) = counted(value).ok_or(Refusal::WrongLength)?;
+    let [conclusion] = rest else {
         return Err(Refusal::WrongLength);
     };
-    if rest.len() != 1 {
-        return Err(Refusal::WrongLength);
-    }
-    let premises = facts(heap, premises)?;
     Ok(AxiomLists {
-        premises,
-        conclusion: rest[0] as u16,
+        premises: facts(heap, premises)?,
+        conclusion: u16::from(*conclusion),
     })
 }
 
-pub(crate) fn rule_lists<'a>(heap: Global, value: &'a [u8]) -> Result<LabelledRule<'a>, Refusal>
-    ensures { RuleListsSay value.now result }
+pub(crate) fn rule_lists(heap: Global, value: &[u8]) -> Result<LabelledRule<'_>, Refusal>
+    ensures { ListsSay labelled (rule_in_value value.now) result }
 {
-    let Some((needed, rest)) = counted(value) else {
-        return Err(Refusal::WrongLength);
+    let (needed, rest) = counted(value).ok_or(Refusal::WrongLength)?;
+    let (forbidden, rest) = counted(rest).ok_or(Refusal::WrongLength)?;
+    let (left, label) = counted(rest).ok_or(Refusal::WrongLength)?;
+    let rule = RuleLists {
+        needed: facts(heap, needed)?,
+        forbidden: facts(heap, forbidden)?,
+        left: facts(heap, left)?,
     };
-    let Some((forbidden, rest)) = counted(rest) else {
-        return Err(Refusal::WrongLength);
-    };
-    let Some((left, label)) = counted(rest) else {
-        return Err(Refusal::WrongLength);
-    };
-    let needed = facts(heap, needed)?;
-    let forbidden = facts(heap, forbidden)?;
-    let left = facts(heap, left)?;
-    Ok(LabelledRule {
-        rule: RuleLists {
-            needed,
-            forbidden,
-            left,
-        },
-        label,
-    })
+    Ok(LabelledRule { rule, label })
 }
 
 pub(crate) fn goal_lists(heap: Global, value: &[u8]) -> Result<GoalLists, Refusal>
-    ensures { GoalListsSay value.now result }
+    ensures { ListsSay goal_listed (goal_in_value value.now) result }
 {
-    let Some((wanted, rest)) = counted(value) else {
-        return Err(Refusal::WrongLength);
-    };
-    let Some((unwanted, rest)) = counted(rest) else {
-        return Err(Refusal::WrongLength);
-    };
-    if rest.len() != 0 {
+    let (wanted, rest) = counted(value).ok_or(Refusal::WrongLength)?;
+    let (unwanted, rest) = counted(rest).ok_or(Refusal::WrongLength)?;
+    if !rest.is_empty() {
         return Err(Refusal::WrongLength);
     }
-    let wanted = facts(heap, wanted)?;
-    let unwanted = facts(heap, unwanted)?;
-    Ok(GoalLists { wanted, unwanted })
+    Ok(GoalLists {
+        wanted: facts(heap, wanted)?,
+        unwanted: facts(heap, unwanted)?,
+    })
 }
