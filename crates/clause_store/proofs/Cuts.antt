@@ -6,6 +6,7 @@ use Rattle.std.proofs.lemmas.Bool.Decides.{nat_tests}
 use Rattle.std.proofs.lemmas.List.{get_or_past, get_or_read, length_push, take-append-le, drop-append-le, drop_at, take_all, take-take}
 use Rattle.std.proofs.lemmas.Slice.{between_is}
 use Rattle.holder.specs.Clauses.{size}
+use Rattle.clause_store.proofs.Named.{fine_push}
 use Rattle.clause_store.specs.Flat.{cut_up, ordered, end_of}
 use Rattle.clause_store.specs.Sizes.{ordered_below, ordered_head, length-cut_up, size-cut_up}
 
@@ -86,8 +87,9 @@ size-push (d ∷ cs) c = let h = size-push cs c in omega arith
 
 pub ruleset sizes = (length-cut_up, size-cut_up)
 
--- what is told by the sizes before and after
-pub ruleset told = (nat_tests, length_push, size-push, length-cut_up, size-cut_up)
+pub ruleset taking = (nat_tests, length_push, size-push, length-cut_up, size-cut_up, cut_up-push, ordered_push, fine_push)
+
+pub ruleset cutting = (nat_tests, length-cut_up, size-cut_up, cut_up-take, end_between)
 
 pub ruleset places = (cut_up_at, end_step, length-cut_up, get_or_past)
 

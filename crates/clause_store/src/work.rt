@@ -119,7 +119,7 @@ impl Holder for Store {
         }
     }
 
-    #[tactic(auto, using(crate::proofs::Cuts::told))]
+    #[tactic(auto, using(crate::proofs::Cuts::taking))]
     fn take(&mut self, clause: &[i32]) -> Result<(), Refusal> {
         if !flat::is_proper(clause) {
             return Err(Refusal::BadClause);
@@ -137,7 +137,7 @@ impl Holder for Store {
         Ok(())
     }
 
-    #[tactic(auto, using(crate::proofs::Cuts::told))]
+    #[tactic(auto, using(crate::proofs::Cuts::cutting))]
     fn cut(&mut self, n: usize) -> Result<(), Refusal> {
         if n > self.ends.len() {
             return Err(Refusal::CutBeyond);

@@ -1,7 +1,5 @@
-use Rattle.std.proofs.Common.{◌≡◌, length, ap, arith}
-use Rattle.holder.specs.Clauses.{holding}
-use Rattle.clause_store.specs.Made.{stood_of}
-use Rattle.clause_store.proofs.Cuts.{ordered_take, cut_up-take, end_between, told}
+use Rattle.std.proofs.Common.{◌≡◌, length, arith}
+use Rattle.clause_store.proofs.Cuts.{ordered_take, end_between}
 use Rattle.clause_store.proofs.Named.{fine_take}
 use Rattle.clause_store.proofs.work.StoreHolder.cut.Goals as goal
 
@@ -16,10 +14,3 @@ pub invariant_of-self-clause-fine : goal.invariant_of-self-clause-fine
 invariant_of-self-clause-fine c =
     let s = c.args.self.now in
     cc (fine_take c.end_of-end.result s.literals.items s.fine)
-
-pub returns : goal.returns
-returns c _ =
-    let s = c.args.self.now in
-    let w = end_between 0 c.args.n s.ends.items (length s.literals.items) s.in_order in
-    let fewer = cut_up-take 0 c.args.n s.ends.items s.literals.items c.end_of-end.result s.in_order (omega arith) in
-    (tt, record { value = grind (arith, told); after = ap (holding (stood_of s)) (cc fewer) })
