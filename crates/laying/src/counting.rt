@@ -1,5 +1,5 @@
 // What a meter does.
-ghost use Rattle.std.specs.Prelude.{◌≡◌, ◌+◌, ◌≤◌, min};
+ghost use Rattle.std.specs.Prelude.{◌≡◌, ◌+◌, min};
 ghost use Rattle.laying.specs.Tops.{top};
 
 use crate::meter::Meter;
@@ -10,39 +10,39 @@ const TOP: usize = MOST_HELD + 1;
 
 // The sum, or one more than any cap if that is less.
 fn add_up(a: usize, b: usize) -> usize
-    requires { a ≤ top }
     ensures { result ≡ min (a + b) top }
 {
-    if b <= TOP - a { a + b } else { TOP }
+    a.saturating_add(b).min(TOP)
 }
 
 impl Meter {
     // Has counted nothing.
     pub fn new() -> Meter
-        ensures { (result.clauses ≡ 0) × (result.literals ≡ 0) }
+        ensures { (result.size.clauses ≡ 0) × (result.size.literals ≡ 0) }
     {
         Meter {
-            clauses: 0,
-            literals: 0,
+            size: Size {
+                clauses: 0,
+                literals: 0,
+            },
         }
     }
 
     // One clause more.
     pub(crate) fn add(&mut self, literals: usize)
-        ensures clauses { self.new.clauses ≡ min (self.old.clauses + 1) top }
-        ensures literals { self.new.literals ≡ min (self.old.literals + literals) top }
+        ensures clauses { self.new.size.clauses ≡ min (self.old.size.clauses + 1) top }
+        ensures literals { self.new.size.literals ≡ min (self.old.size.literals + literals) top }
     {
-        self.clauses = add_up(self.clauses, 1);
-        self.literals = add_up(self.literals, literals);
+        self.size = Size {
+            clauses: add_up(self.size.clauses, 1),
+            literals: add_up(self.size.literals, literals),
+        };
     }
 
     // What it has counted.
     pub fn size(self) -> Size
-        ensures { result ≡ record { clauses = self.clauses; literals = self.literals } }
+        ensures { result ≡ self.size }
     {
-        Size {
-            clauses: self.clauses,
-            literals: self.literals,
-        }
+        self.size
     }
 }

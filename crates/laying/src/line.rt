@@ -1,8 +1,9 @@
-// A literal, and one clause as it is being written.
-ghost use Rattle.std.specs.Prelude.{◌≡◌, ◌<◌, ◌≤◌, true, take};
+// A literal, the literals of one sign, and one clause as it is being written.
+ghost use Rattle.std.specs.Prelude.{◌≡◌, ◌<◌, ◌≤◌, true, length};
 ghost use Rattle.refusals.specs.Limits.{most_variables, longest_clause};
 ghost use Rattle.holder.specs.Clauses.{all_fine};
 
+use arrayvec::ArrayVec;
 use refusals::limits::LONGEST_CLAUSE;
 
 // That a variable is true, or that it is false.
@@ -14,11 +15,17 @@ pub struct Literal {
     ghost few: { variable ≤ most_variables },
 }
 
-// The literals so far.
+// The literals of one sign over the variables that begin past another.
 #[derive(Clone, Copy)]
+pub struct Literals {
+    pub positive: bool,
+    pub past: u32,
+}
+
+// The literals so far.
+#[derive(Drop)]
 pub struct Line {
-    pub(crate) places: [i32; LONGEST_CLAUSE],
-    pub(crate) used: usize,
-    ghost room: { used ≤ longest_clause },
-    ghost fine: { all_fine (take used places) ≡ true },
+    pub(crate) literals: ArrayVec<i32, LONGEST_CLAUSE>,
+    ghost room: { length literals.items ≤ longest_clause },
+    ghost fine: { all_fine literals.items ≡ true },
 }

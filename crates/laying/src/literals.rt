@@ -1,12 +1,13 @@
 // Literals, and clauses of them.
-ghost use Rattle.std.specs.Prelude.{◌≡◌, ◌+◌, ◌<◌, ◌≤◌, true, [], ◌∷◌, ◌++◌, length, take, if◌then◌else◌};
+ghost use Rattle.std.specs.Prelude.{◌≡◌, ◌+◌, ◌<◌, ◌≤◌, true, false, [], ◌∷◌, ◌++◌, length, take, if◌then◌else◌};
 ghost use Rattle.refusals.specs.Limits.{most_variables, longest_clause};
 ghost use Rattle.holder.specs.Clauses.{literal_fine, all_fine};
 ghost use Rattle.laying.specs.Lines.{signed};
 ghost use Rattle.laying.specs.Written.{lits, value};
 
-use crate::line::{Line, Literal};
-use refusals::limits::{LONGEST_CLAUSE, MOST_VARIABLES};
+use crate::line::{Line, Literal, Literals};
+use arrayvec::ArrayVec;
+use refusals::limits::MOST_VARIABLES;
 
 impl Literal {
     // A variable past the largest counts as the largest, and 0 as 1.
@@ -18,24 +19,44 @@ impl Literal {
             variable: variable.min(MOST_VARIABLES).max(1),
         }
     }
+}
 
-    // The variable of this number, where such variables begin past another.
-    pub fn past(positive: bool, past: u32, number: u32) -> Literal
-        ensures { 0 < number → past + number ≤ most_variables → value result ≡ signed positive (past + number) }
+// As clauses have it: the variable, or less than 0 if it is false.
+impl From<Literal> for i32 {
+    ghost from_gives = { λ l n. (n ≡ value l) × (literal_fine n ≡ true) };
+
+    fn from(l: Literal) -> i32 {
+        let variable = l.variable as i32;
+        if l.positive { variable } else { -variable }
+    }
+}
+
+impl Literals {
+    // That variables are true.
+    pub fn holding(past: u32) -> Literals
+        ensures { (result.positive ≡ true) × (result.past ≡ past) }
     {
-        Literal::new(positive, past.saturating_add(number))
+        Literals {
+            positive: true,
+            past,
+        }
     }
 
-    // As clauses have it: the variable, or less than 0 if it is false.
-    pub(crate) fn number(self) -> i32
-        ensures value { result ≡ value self }
-        ensures fine { literal_fine result ≡ true }
+    // That they are false.
+    pub fn lacking(past: u32) -> Literals
+        ensures { (result.positive ≡ false) × (result.past ≡ past) }
     {
-        if self.positive {
-            self.variable as i32
-        } else {
-            -(self.variable as i32)
+        Literals {
+            positive: false,
+            past,
         }
+    }
+
+    // The one of the variable of this number.
+    pub fn of(self, number: u32) -> Literal
+        ensures { 0 < number → self.past + number ≤ most_variables → value result ≡ signed self.positive (self.past + number) }
+    {
+        Literal::new(self.positive, self.past.saturating_add(number))
     }
 }
 
@@ -44,8 +65,7 @@ impl Line {
         ensures { lits result ≡ [] }
     {
         Line {
-            places: [0; LONGEST_CLAUSE],
-            used: 0,
+            literals: ArrayVec::new(),
         }
     }
 
@@ -53,9 +73,8 @@ impl Line {
     pub fn push(&mut self, l: Literal)
         ensures { lits self.new ≡ take longest_clause (lits self.old ++ value l ∷ []) }
     {
-        if self.used < LONGEST_CLAUSE {
-            self.places[self.used] = l.number();
-            self.used += 1;
+        if !self.literals.is_full() {
+            self.literals.push(i32::from(l));
         }
     }
 
@@ -72,6 +91,6 @@ impl Line {
         ensures few { length result.now ≤ longest_clause }
         ensures fine { all_fine result.now ≡ true }
     {
-        &self.places[0..self.used]
+        self.literals.as_slice()
     }
 }

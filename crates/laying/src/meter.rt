@@ -2,10 +2,11 @@
 ghost use Rattle.std.specs.Prelude.{◌≤◌};
 ghost use Rattle.laying.specs.Tops.{top};
 
+use holder::size::Size;
+
 #[derive(Clone, Copy, Drop)]
 pub struct Meter {
-    pub(crate) clauses: usize,
-    pub(crate) literals: usize,
-    ghost few_clauses: { clauses ≤ top },
-    ghost few_literals: { literals ≤ top },
+    pub(crate) size: Size,
+    ghost few_clauses: { size.clauses ≤ top },
+    ghost few_literals: { size.literals ≤ top },
 }
