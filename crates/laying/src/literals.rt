@@ -70,6 +70,7 @@ impl Line {
     }
 
     // One literal more, while there is room.
+    #[tactic(auto, using(crate::proofs::Pushed::fine_push))]
     pub fn push(&mut self, l: Literal)
         ensures { lits self.new ≡ take longest_clause (lits self.old ++ value l ∷ []) }
     {
