@@ -12,7 +12,7 @@ use Rattle.problem_file.specs.declared.faults.ProblemFault.{ProblemFault}
 use Rattle.problem_file.specs.declared.records.Placed.{Placed}
 use Rattle.problem_file.specs.declared.field.Tag.{Tag}
 use Rattle.problem_file.specs.declared.field.Field.{Field}
-use Rattle.problem_file.specs.Says.{tag_number, FieldSays}
+use Rattle.problem_file.specs.Says.{tag_number, tag_of, value_of, FieldSays}
 use Rattle.problem_file.specs.Layers.{of_record, layer_of}
 use Rattle.problem_file.specs.Next.{stopped, with_value, next_record, Faulty}
 use Rattle.problem_file.specs.Records.{Drafts, Judges}
@@ -26,12 +26,12 @@ pub next_is : (t : ℕ) (p : Problem) (v bs : List ℕ) → next_record t p (fie
 next_is t p v bs = cond-true _ _ _ (eq-eqb t t refl)
 
 -- a refusal of its value by itself
-pub read_faulty : (t : Tag) (x : Field) (p : Problem) (due : Option Refusal) (file : List ℕ) (at after : ℕ) (found : Found) (e : Refusal) (f : RecordFault) → FieldSays file at found (Ok (Some x)) after → x.tag ≡ t → (f.refusal ≡ e) × (f.layer ≡ AtRecord) × (f.at ≡ at) → (e ≡ OutOfMemory) ⊎ ((due ≡ Some e) × (take_value (tag_number t) p x.value.now ≡ refused e) × (AtRecord ≡ layer_of e)) → Faulty at (next_record (tag_number t) p found) (of_record f)
+pub read_faulty : (t : Tag) (x : Field) (p : Problem) (due : Option Refusal) (file : List ℕ) (at after : ℕ) (found : Found) (e : Refusal) (f : RecordFault) → FieldSays file at found (Ok (Some x)) after → tag_of x ≡ t → (f.refusal ≡ e) × (f.layer ≡ AtRecord) × (f.at ≡ at) → (e ≡ OutOfMemory) ⊎ ((due ≡ Some e) × (take_value (tag_number t) p (value_of x) ≡ refused e) × (AtRecord ≡ layer_of e)) → Faulty at (next_record (tag_number t) p found) (of_record f)
 read_faulty t x p due file at after found e f says same is why =
-    let here : next_record (tag_number t) p found ≡ with_value x.value.now (take_value (tag_number t) p x.value.now) = ap (next_record (tag_number t) p) says.0 ∙ ap (λ u. next_record (tag_number t) p (field (tag_number u) x.value.now (drop after file))) same ∙ next_is (tag_number t) p x.value.now (drop after file) in
+    let here : next_record (tag_number t) p found ≡ with_value (value_of x) (take_value (tag_number t) p (value_of x)) = ap (next_record (tag_number t) p) says.0 ∙ ap (λ u. next_record (tag_number t) p (field (tag_number u) (value_of x) (drop after file))) same ∙ next_is (tag_number t) p (value_of x) (drop after file) in
     record {
       stands = is.2;
-      due = elim why [ inl m ↦ inl (is.0 ∙ m) | inr s ↦ inr (here ∙ ap (with_value x.value.now) s.1 ∙ ap stopped (sym is.0), is.1 ∙ s.2 ∙ ap layer_of (sym is.0)) ];
+      due = elim why [ inl m ↦ inl (is.0 ∙ m) | inr s ↦ inr (here ∙ ap (with_value (value_of x)) s.1 ∙ ap stopped (sym is.0), is.1 ∙ s.2 ∙ ap layer_of (sym is.0)) ];
     }
 
 -- a record that was judged, given to the draft and refused

@@ -1,7 +1,7 @@
 // The fields of a file.
 ghost use Rattle.std.specs.Prelude.{◌≡◌, drop};
 ghost use Rattle.file_format.specs.Fields.{next_field};
-ghost use Rattle.problem_file.specs.Says.{Decodes, HeadSays, FieldSays, tag_number};
+ghost use Rattle.problem_file.specs.Says.{Decodes, HeadSays, FieldSays, tag_number, tag_of, value_of};
 
 use crate::faults::FieldFault;
 use crate::file::ProblemFile;
@@ -35,11 +35,52 @@ impl TryFrom<u8> for Tag {
     }
 }
 
-// A field, with its value as the part of the file that it is.
+// A field by its tag, with its value as the part of the file that it is.
 #[derive(Clone, Copy, Debug, PartialEq, Eq)]
-pub struct Field<'a> {
-    pub tag: Tag,
-    pub value: &'a [u8],
+pub enum Field<'a> {
+    Facts(&'a [u8]),
+    Start(&'a [u8]),
+    Axiom(&'a [u8]),
+    Rule(&'a [u8]),
+    Goal(&'a [u8]),
+}
+
+impl<'a> Field<'a> {
+    fn new(tag: Tag, value: &'a [u8]) -> Field<'a>
+        ensures { (tag_of result ≡ tag) × (value_of result ≡ value.now) }
+    {
+        match tag {
+            Tag::Facts => Field::Facts(value),
+            Tag::Start => Field::Start(value),
+            Tag::Axiom => Field::Axiom(value),
+            Tag::Rule => Field::Rule(value),
+            Tag::Goal => Field::Goal(value),
+        }
+    }
+
+    pub(crate) fn tag(self) -> Tag
+        ensures { result ≡ tag_of self.entry }
+    {
+        match self {
+            Field::Facts(_) => Tag::Facts,
+            Field::Start(_) => Tag::Start,
+            Field::Axiom(_) => Tag::Axiom,
+            Field::Rule(_) => Tag::Rule,
+            Field::Goal(_) => Tag::Goal,
+        }
+    }
+
+    pub(crate) fn value(self) -> &'a [u8]
+        ensures { result.now ≡ value_of self.entry }
+    {
+        match self {
+            Field::Facts(value)
+            | Field::Start(value)
+            | Field::Axiom(value)
+            | Field::Rule(value)
+            | Field::Goal(value) => value,
+        }
+    }
 }
 
 // The field at the head of some bytes, if its tag is from low to high; nothing where there are no bytes.
@@ -55,7 +96,7 @@ fn first_field(bytes: &[u8], low: Tag, high: Tag) -> Result<Option<Field<'_>>, R
             if !(low..=high).contains(&tag) {
                 return Err(Refusal::WrongTag);
             }
-            Ok(Some(Field { tag, value }))
+            Ok(Some(Field::new(tag, value)))
         }
         _ => Err(Refusal::CutShort),
     }
@@ -77,7 +118,7 @@ impl<'a> ProblemFile<'a> {
         };
         let field = first_field(rest, low, high).map_err(|refusal| FieldFault { refusal, at })?;
         if let Some(field) = field {
-            place.at += 3 + field.value.len();
+            place.at += 3 + field.value().len();
         }
         Ok(field)
     }

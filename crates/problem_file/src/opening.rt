@@ -50,7 +50,7 @@ impl ProblemFile<'_> {
                 refusal: Refusal::Missing,
                 at,
             })?;
-        let facts = facts_in(field.value).map_err(|refusal| RecordFault::new(refusal, at))?;
+        let facts = facts_in(field.value()).map_err(|refusal| RecordFault::new(refusal, at))?;
         guard.accept();
         Ok(facts)
     }
@@ -67,9 +67,9 @@ impl ProblemFile<'_> {
                 refusal: Refusal::Missing,
                 at,
             })?;
-        let draft = opened(self.heap, facts_count, field.value).map_err(|refusal| RecordFault::new(
-            refusal, at,
-        ))?;
+        let draft = opened(self.heap, facts_count, field.value()).map_err(
+            |refusal| RecordFault::new(refusal, at),
+        )?;
         guard.accept();
         Ok(draft)
     }

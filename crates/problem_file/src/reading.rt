@@ -7,7 +7,7 @@ ghost use Rattle.problem_file.specs.Records.{Judges, Takes};
 
 use crate::drafting::Drafting;
 use crate::faults::{ProblemFault, RecordFault};
-use crate::field::{Field, Tag};
+use crate::field::Tag;
 use crate::file::ProblemFile;
 use crate::place::{Guard, Place};
 use crate::records::Placed;
@@ -23,9 +23,9 @@ impl<'a> ProblemFile<'a> {
     {
         let at = place.at;
         match self.next_field(place, D::TAG, Tag::Goal)? {
-            Some(Field { tag, value }) if tag == D::TAG => {
+            Some(field) if field.tag() == D::TAG => {
                 let record = draft
-                    .read(self.heap, value)
+                    .read(self.heap, field.value())
                     .map_err(|refusal| RecordFault::new(refusal, at))?;
                 Ok(Some(Placed { record, at }))
             }
