@@ -8,9 +8,6 @@ use Rattle.problem.specs.Lists.{every}
 pub every_is : {A : Type 0} (P : A → Bool) (xs : List A) → list_all P xs ≡ every P xs
 every_is P xs = same_from_clauses (list_all P) (every P) (λ x r. P x && r) refl (λ _ _. refl) (λ _ _. refl) xs
 
-pub any_is : {A : Type 0} (P : A → Bool) (xs : List A) → list_any P xs ≡ any P xs
-any_is P xs = same_from_clauses (list_any P) (any P) (λ x r. P x || r) refl (λ _ _. refl) (λ _ _. refl) xs
-
 -- over a view of the entries
 pub any_view : {X Y : Type 0} (v : X → Y) (P : Y → Bool) (xs : List X) → list_any (λ x. P (v x)) xs ≡ any P (map v xs)
 any_view v P xs = same_from_clauses (list_any (λ x. P (v x))) (λ l. any P (map v l)) (λ x r. P (v x) || r) refl (λ _ _. refl) (λ _ _. refl) xs
