@@ -1,4 +1,4 @@
-use Rattle.std.proofs.Common.{◌≡◌, [], get_or, take, pos, string_bytes, append_assoc, w32, SFits, rules}
+use Rattle.std.proofs.Common.{[], get_or, take, pos, string_bytes, append_assoc, w32, SFits, rules}
 use Rattle.std.proofs.lemmas.Int.{to_z-of_z}
 use Rattle.std.proofs.lemmas.List.{take_more}
 use Rattle.runs.specs.Clauses.{joined}
