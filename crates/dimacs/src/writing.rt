@@ -8,6 +8,7 @@ use holder::held::Holder;
 use std::alloc::{AllocError, Global};
 
 // Clause i; no clause has more literals than most.
+#[tactic(auto, using(crate::proofs::Coming::written))]
 fn write_clause<H: Holder>(
     out: &mut String,
     holder: &H,
@@ -28,6 +29,7 @@ fn write_clause<H: Holder>(
 }
 
 // The first n clauses, which are all.
+#[tactic(auto, using(crate::proofs::Coming::written))]
 fn write_clauses<H: Holder>(
     out: &mut String,
     holder: &H,
