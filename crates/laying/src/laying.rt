@@ -1,5 +1,5 @@
 // Clauses of one literal, of two, and of a line.
-ghost use Rattle.std.specs.Prelude.{◌≡◌, ◌<◌, [], ◌∷◌, length, if◌then◌else◌};
+ghost use Rattle.std.specs.Prelude.{◌≡◌, ◌<◌, [], ◌∷◌, length};
 ghost use Rattle.laying.specs.Written.{lits, value};
 
 use crate::line::{Line, Literal};
@@ -23,12 +23,4 @@ pub fn lay_pair<H: Taker>(taker: &mut H, a: Literal, b: Literal)
     ensures { H.grew taker.old ((value a ∷ value b ∷ []) ∷ []) taker.new }
 {
     taker.lay(&[i32::from(a), i32::from(b)])
-}
-
-pub fn lay_pair_if<H: Taker>(taker: &mut H, when: bool, a: Literal, b: Literal)
-    ensures { H.grew taker.old (if when then (value a ∷ value b ∷ []) ∷ [] else []) taker.new }
-{
-    if when {
-        lay_pair(taker, a, b)
-    }
 }

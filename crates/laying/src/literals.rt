@@ -1,5 +1,5 @@
 // Literals, and clauses of them.
-ghost use Rattle.std.specs.Prelude.{◌≡◌, ◌+◌, ◌<◌, ◌≤◌, true, false, [], ◌∷◌, ◌++◌, length, take, if◌then◌else◌};
+ghost use Rattle.std.specs.Prelude.{◌≡◌, ◌+◌, ◌<◌, ◌≤◌, true, false, [], ◌∷◌, ◌++◌, length, take};
 ghost use Rattle.refusals.specs.Limits.{most_variables, longest_clause};
 ghost use Rattle.holder.specs.Clauses.{literal_fine, all_fine};
 ghost use Rattle.laying.specs.Lines.{signed};
@@ -76,14 +76,6 @@ impl Line {
     {
         if !self.literals.is_full() {
             self.literals.push(i32::from(l));
-        }
-    }
-
-    pub fn push_if(&mut self, when: bool, l: Literal)
-        ensures { lits self.new ≡ take longest_clause (lits self.old ++ (if when then value l ∷ [] else [])) }
-    {
-        if when {
-            self.push(l);
         }
     }
 
