@@ -55,7 +55,8 @@ impl ProblemFile<'_> {
         Ok(facts)
     }
 
-    // The start list, over so many facts: it opens the draft.
+    // The start list, over so many facts: it opens the draft. One function for this and `next_facts` would take the
+    // reading of the value as a closure, with a contract over what that answers, and be longer than the two.
     pub fn next_start(self, place: &mut Place, facts_count: u16) -> Result<AxiomDraft, RecordFault>
         ensures { StartSays self.entry.bytes.now place.old.at facts_count (next_field 2 2 (drop place.old.at self.entry.bytes.now)) result place.new.at }
     {
@@ -67,9 +68,8 @@ impl ProblemFile<'_> {
                 refusal: Refusal::Missing,
                 at,
             })?;
-        let draft = opened(self.heap, facts_count, field.value()).map_err(
-            |refusal| RecordFault::new(refusal, at),
-        )?;
+        let drafted = opened(self.heap, facts_count, field.value());
+        let draft = drafted.map_err(|refusal| RecordFault::new(refusal, at))?;
         guard.accept();
         Ok(draft)
     }
