@@ -1,4 +1,4 @@
-// Records as callers give them, and what each shows by itself.
+// Records as callers give them, and what each shows by itself. The tests of rules and of goals are a line each, with the word of its own promise.
 ghost use Rattle.std.specs.Prelude.{◌≡◌, ◌+◌, not, ◌&&◌, length, nat_lt};
 ghost use Rattle.problem.specs.Lists.{rises};
 ghost use Rattle.problem.specs.Views.{axiom_in, rule_in, goal_in};

@@ -19,7 +19,7 @@ pub(crate) fn judge_start(facts: u16, start: &[u16]) -> Result<(), Refusal>
     Ok(())
 }
 
-// Of four tests, the refusal of the first that fails.
+// Of four tests, the refusal of the first that fails. They are of one standing, and none is a flag of another's value.
 pub(crate) fn judge_shape(
     in_range: bool,
     rising: bool,
