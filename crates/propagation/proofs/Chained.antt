@@ -5,7 +5,6 @@ use Rattle.std.proofs.lemmas.Bool.{cases_eq, cases_lt}
 use Rattle.std.proofs.lemmas.List.{get_or_append_left, get_or_push, get_or-set_same, get_or-set_other, length_push, set_past}
 use Rattle.holder.specs.Widest.{variable}
 use Rattle.holder.specs.Clauses.{size}
-use Rattle.trials.specs.declared.value.Value.TheVariants.{True, False}
 use Rattle.trials.specs.Values.{sign}
 use Rattle.trials.specs.Exist.{Within, WithinClause}
 use Rattle.propagation.specs.Chains.{Chains, Leads, here, there, head, Lists, added, added_clause, added_all, no_chains, Good, Owned, Indexes}
@@ -226,12 +225,12 @@ chains_eq ps ps' ns ns' xs xs' os os' a b c d =
     ∙ ap (λ (z : List ℕ). record { positive = ps'; negative = ns'; next = z; owner = os }) c
     ∙ ap (λ (z : List ℕ). record { positive = ps'; negative = ns'; next = xs'; owner = z }) d
 
-pub added_true : (s : Chains) (l : ℤ) (i : ℕ) → True ≡ sign l → added s l i ≡ record { positive = set s.positive (variable l) (length s.next + 1); negative = s.negative; next = s.next ++ get_or s.positive (variable l) 0 ∷ []; owner = s.owner ++ i ∷ [] }
+pub added_true : (s : Chains) (l : ℤ) (i : ℕ) → Some true ≡ sign l → added s l i ≡ record { positive = set s.positive (variable l) (length s.next + 1); negative = s.negative; next = s.next ++ get_or s.positive (variable l) 0 ∷ []; owner = s.owner ++ i ∷ [] }
 unfolding added
 added_true s (pos n) i e = refl
 added_true s (negsuc n) i e = absurd (let z : ◌≡◌ {A = ℕ} 0 1 = cc in let w : ⊥ = omega arith in w)
 
-pub added_false : (s : Chains) (l : ℤ) (i : ℕ) → False ≡ sign l → added s l i ≡ record { positive = s.positive; negative = set s.negative (variable l) (length s.next + 1); next = s.next ++ get_or s.negative (variable l) 0 ∷ []; owner = s.owner ++ i ∷ [] }
+pub added_false : (s : Chains) (l : ℤ) (i : ℕ) → Some false ≡ sign l → added s l i ≡ record { positive = s.positive; negative = set s.negative (variable l) (length s.next + 1); next = s.next ++ get_or s.negative (variable l) 0 ∷ []; owner = s.owner ++ i ∷ [] }
 unfolding added
 added_false s (pos n) i e = absurd (let z : ◌≡◌ {A = ℕ} 0 1 = cc in let w : ⊥ = omega arith in w)
 added_false s (negsuc n) i e = refl

@@ -1,8 +1,7 @@
 -- One forced literal more.
 use Rattle.std.proofs.Common.{◌≡◌, ℕ, ◌<◌, List, [], ◌∷◌, ◌++◌, length, get_or, set, ℤ, sym, ap, ◌∙◌, subst, arith}
 use Rattle.holder.specs.Widest.{variable}
-use Rattle.trials.specs.declared.value.Value.{Value}
-use Rattle.trials.specs.declared.value.Value.TheVariants.{Open}
+use Rattle.trials.specs.Values.{Value}
 use Rattle.trials.specs.Values.{sign, holding, opens}
 use Rattle.trials.specs.Forcing.{Forced, Forcing, rest, next}
 use Rattle.trials.specs.Exist.{Within, forced_within, open_at, opens_set, sign_set}
@@ -19,10 +18,10 @@ pub come_none : (cs : List (List ℤ)) (a : List Value) (ts : List ℕ) → Come
 come_none cs a ts = record { run = rest; back = back_none a ts }
 
 module _ (cs : List (List ℤ)) (b : List Value) (l : ℤ) (f : Forced cs b l) (v : ℕ) (x : Value) (named : v ≡ variable l) (signed : x ≡ sign l) where
-  pub forced_open : get_or b v Open ≡ Open
-  forced_open = subst (λ (z : ℕ). get_or b z Open ≡ Open) (sym named) (open_at b l f.opened)
+  pub forced_open : get_or b v None ≡ None
+  forced_open = subst (λ (z : ℕ). get_or b z None ≡ None) (sym named) (open_at b l f.opened)
 
-  pub forced_set : x ≡ Open → ⊥
+  pub forced_set : x ≡ None → ⊥
   forced_set e = sign_set l (sym signed ∙ e)
 
   pub forced_in : Within (length b) cs → v < length b

@@ -3,8 +3,7 @@ use Rattle.std.proofs.Common.{◌≡◌, ℕ, suc, ◌+◌, ◌-◌, ◌<◌, �
 use Rattle.std.proofs.lemmas.Bool.{cases_eq}
 use Rattle.std.proofs.lemmas.List.{get_or_append_left, get_or_push, get_or-set_other, length_push}
 use Rattle.holder.specs.Widest.{variable}
-use Rattle.trials.specs.declared.value.Value.{Value}
-use Rattle.trials.specs.declared.value.Value.TheVariants.{Open, True, False}
+use Rattle.trials.specs.Values.{Value}
 use Rattle.trials.specs.Values.{value, is_false, flip, sign}
 use Rattle.trials.specs.Forcing.{live, Calm, Quiet}
 use Rattle.trials.proofs.Below.{Below, below_true, below_false, true_set, false_set, flip_back, live_below}
@@ -12,39 +11,39 @@ use Rattle.forcing.proofs.Judging.{calm_true}
 use Rattle.propagation.specs.Chains.{Chains, Leads, here, there, head, Good, Indexes}
 use Rattle.propagation.specs.Waits.{Watched, calm, waits, other, Awake, NoneElse, against}
 
-pub below_put : (b : List Value) (v : ℕ) (x : Value) → get_or b v Open ≡ Open → Below b (set b v x)
+pub below_put : (b : List Value) (v : ℕ) (x : Value) → get_or b v None ≡ None → Below b (set b v x)
 below_put b v x o w y e s = elim (cases_eq w v) [
-  | inl i ↦ absurd (s (sym e ∙ subst (λ (k : ℕ). get_or b k Open ≡ Open) (sym i) o))
-  | inr ne ↦ get_or-set_other b v w x Open ne ∙ e
+  | inl i ↦ absurd (s (sym e ∙ subst (λ (k : ℕ). get_or b k None ≡ None) (sym i) o))
+  | inr ne ↦ get_or-set_other b v w x None ne ∙ e
 ]
 
-open_back_by : (b d : List Value) → Below b d → (l : ℤ) → value d l ≡ Open → (x : Value) → value b l ≡ x → value b l ≡ Open
-open_back_by b d less l o Open e = e
-open_back_by b d less l o True e = absurd (true_set (sym (below_true b d less l e) ∙ o))
-open_back_by b d less l o False e = absurd (false_set (sym (below_false b d less l e) ∙ o))
+open_back_by : (b d : List Value) → Below b d → (l : ℤ) → value d l ≡ None → (x : Value) → value b l ≡ x → value b l ≡ None
+open_back_by b d less l o None e = e
+open_back_by b d less l o (Some true) e = absurd (true_set (sym (below_true b d less l e) ∙ o))
+open_back_by b d less l o (Some false) e = absurd (false_set (sym (below_false b d less l e) ∙ o))
 
-open_back : (b d : List Value) → Below b d → (l : ℤ) → value d l ≡ Open → value b l ≡ Open
+open_back : (b d : List Value) → Below b d → (l : ℤ) → value d l ≡ None → value b l ≡ None
 open_back b d less l o = open_back_by b d less l o (value b l) refl
 
 calm_kept : (b d : List Value) (c : List ℤ) → Below b d → live d c ≡ live b c → Calm b c → Calm d c
 calm_kept b d c less e k = record { alive = λ z. k.alive (sym e ∙ z); still = λ l z o. k.still l (sym e ∙ z) (open_back b d less l o) }
 
-value_open : (b : List Value) (l : ℤ) → get_or b (variable l) Open ≡ Open → value b l ≡ Open
+value_open : (b : List Value) (l : ℤ) → get_or b (variable l) None ≡ None → value b l ≡ None
 value_open b (pos n) e = e
 value_open b (negsuc n) e = ap flip e
 
 value_other : (b : List Value) (v : ℕ) (x : Value) (l : ℤ) → (variable l ≡ v → ⊥) → value (set b v x) l ≡ value b l
-value_other b v x (pos n) ne = get_or-set_other b v n x Open ne
-value_other b v x (negsuc n) ne = ap flip (get_or-set_other b v (suc n) x Open ne)
+value_other b v x (pos n) ne = get_or-set_other b v n x None ne
+value_other b v x (negsuc n) ne = ap flip (get_or-set_other b v (suc n) x None ne)
 
 -- a literal of the clause that v made false
 pub record Touched (d : List Value) (v : ℕ) (c : List ℤ) : Type 0 where
   pub place : ℕ
   pub within : place < length c
   pub named : variable (get_or c place (pos 0)) ≡ v
-  pub dead : value d (get_or c place (pos 0)) ≡ False
+  pub dead : value d (get_or c place (pos 0)) ≡ Some false
 
-module _ (b : List Value) (v : ℕ) (x : Value) (o : get_or b v Open ≡ Open) where
+module _ (b : List Value) (v : ℕ) (x : Value) (o : get_or b v None ≡ None) where
   abbrev d : List Value
   d = set b v x
 
@@ -54,9 +53,9 @@ module _ (b : List Value) (v : ℕ) (x : Value) (o : get_or b v Open ≡ Open) w
   touched_more l c f (inr e) = inr (ap (λ z. cond z (live (set b v x) c) (l ∷ live (set b v x) c)) f ∙ ap (λ z. cond (is_false (value b l)) z (l ∷ z)) e)
 
   touched_at : (l : ℤ) (c : List ℤ) → variable l ≡ v → Touched (set b v x) v c ⊎ (live (set b v x) c ≡ live b c) → (y : Value) → value (set b v x) l ≡ y → Touched (set b v x) v (l ∷ c) ⊎ (live (set b v x) (l ∷ c) ≡ live b (l ∷ c))
-  touched_at l c n r Open e = touched_more l c (ap is_false e ∙ sym (ap is_false (value_open b l (subst (λ (k : ℕ). get_or b k Open ≡ Open) (sym n) o)))) r
-  touched_at l c n r True e = touched_more l c (ap is_false e ∙ sym (ap is_false (value_open b l (subst (λ (k : ℕ). get_or b k Open ≡ Open) (sym n) o)))) r
-  touched_at l c n r False e = inl (record { place = 0; within = omega arith; named = n; dead = e })
+  touched_at l c n r None e = touched_more l c (ap is_false e ∙ sym (ap is_false (value_open b l (subst (λ (k : ℕ). get_or b k None ≡ None) (sym n) o)))) r
+  touched_at l c n r (Some true) e = touched_more l c (ap is_false e ∙ sym (ap is_false (value_open b l (subst (λ (k : ℕ). get_or b k None ≡ None) (sym n) o)))) r
+  touched_at l c n r (Some false) e = inl (record { place = 0; within = omega arith; named = n; dead = e })
 
   touched : (c : List ℤ) → Touched (set b v x) v c ⊎ (live (set b v x) c ≡ live b c)
   unfolding live
@@ -87,28 +86,28 @@ module _ (b : List Value) (v : ℕ) (x : Value) (o : get_or b v Open ≡ Open) w
     })
 
 -- after forcing by itself a clause is calm
-pub forced_calm : (b : List Value) (c : List ℤ) (l : ℤ) (v : ℕ) (x : Value) → live b c ≡ l ∷ [] → value b l ≡ Open → v ≡ variable l → x ≡ sign l → v < length b → Calm (set b v x) c
+pub forced_calm : (b : List Value) (c : List ℤ) (l : ℤ) (v : ℕ) (x : Value) → live b c ≡ l ∷ [] → value b l ≡ None → v ≡ variable l → x ≡ sign l → v < length b → Calm (set b v x) c
 unfolding live
 forced_calm b c l v x alone opened n s w =
-    let o = subst (λ (k : ℕ). get_or b k Open ≡ Open) (sym n) (Rattle.trials.specs.Exist.open_at b l opened) in
+    let o = subst (λ (k : ℕ). get_or b k None ≡ None) (sym n) (Rattle.trials.specs.Exist.open_at b l opened) in
     let t = now_true l v x n s w in
     let e : live (set b v x) c ≡ l ∷ [] = sym (live_below b (set b v x) (below_put b v x o) c) ∙ ap (live (set b v x)) alone ∙ rw t in
     calm_true (set b v x) c l [] e t
   where
-    now_true : (l : ℤ) (v : ℕ) (x : Value) → v ≡ variable l → x ≡ sign l → v < length b → value (set b v x) l ≡ True
-    now_true (pos k) v x n s w = ap (λ (z : ℕ). get_or (set b v x) z Open) (sym n) ∙ Rattle.std.proofs.lemmas.List.get_or-set_same b v x Open w ∙ s
-    now_true (negsuc k) v x n s w = ap flip (ap (λ (z : ℕ). get_or (set b v x) z Open) (sym n) ∙ Rattle.std.proofs.lemmas.List.get_or-set_same b v x Open w ∙ s)
+    now_true : (l : ℤ) (v : ℕ) (x : Value) → v ≡ variable l → x ≡ sign l → v < length b → value (set b v x) l ≡ Some true
+    now_true (pos k) v x n s w = ap (λ (z : ℕ). get_or (set b v x) z None) (sym n) ∙ Rattle.std.proofs.lemmas.List.get_or-set_same b v x None w ∙ s
+    now_true (negsuc k) v x n s w = ap flip (ap (λ (z : ℕ). get_or (set b v x) z None) (sym n) ∙ Rattle.std.proofs.lemmas.List.get_or-set_same b v x None w ∙ s)
 
 -- the chain of the literal that v made false
-against_is : (s : Chains) (b : List Value) (l : ℤ) (v : ℕ) → variable l ≡ v → value b l ≡ False → head s l ≡ against s v (get_or b v Open)
-against_is s b (pos n) v e f = ap (λ (z : ℕ). get_or s.positive z 0) e ∙ ap (against s v) (sym (sym (ap (λ (z : ℕ). get_or b z Open) e) ∙ f))
+against_is : (s : Chains) (b : List Value) (l : ℤ) (v : ℕ) → variable l ≡ v → value b l ≡ Some false → head s l ≡ against s v (get_or b v None)
+against_is s b (pos n) v e f = ap (λ (z : ℕ). get_or s.positive z 0) e ∙ ap (against s v) (sym (sym (ap (λ (z : ℕ). get_or b z None) e) ∙ f))
 against_is s b (negsuc n) v e f =
-    let g : get_or b (suc n) Open ≡ True = flip_back (get_or b (suc n) Open) False f in
-    ap (λ (z : ℕ). get_or s.negative z 0) e ∙ ap (against s v) (sym (sym (ap (λ (z : ℕ). get_or b z Open) e) ∙ g))
+    let g : get_or b (suc n) None ≡ Some true = flip_back (get_or b (suc n) None) (Some false) f in
+    ap (λ (z : ℕ). get_or s.negative z 0) e ∙ ap (against s v) (sym (sym (ap (λ (z : ℕ). get_or b z None) e) ∙ g))
 
 module _ (cs : List (List ℤ)) (places : ℕ) (s : Chains) (ix : Indexes cs places s) (b : List Value) (us : List ℕ) where
   -- the clauses that wait for the variable at `from` stand in one chain
-  pub awake_next : (from v entry : ℕ) → v ≡ get_or us from 0 → entry ≡ against s v (get_or b v Open) → Awake cs b us from NoneElse → Awake cs b us (from + 1) (λ i. Leads s.next s.owner entry i)
+  pub awake_next : (from v entry : ℕ) → v ≡ get_or us from 0 → entry ≡ against s v (get_or b v None) → Awake cs b us from NoneElse → Awake cs b us (from + 1) (λ i. Leads s.next s.owner entry i)
   awake_next from v entry n e a i h = turn (a i h)
     where
       turn : Watched (get_or cs i []) b us from ⊥ → Watched (get_or cs i []) b us (from + 1) (Leads s.next s.owner entry i)
@@ -120,9 +119,9 @@ module _ (cs : List (List ℤ)) (places : ℕ) (s : Chains) (ix : Indexes cs pla
       ]
 
 pub against_within : (places : ℕ) (s : Chains) → Good places s → (v : ℕ) (x : Value) → against s v x ≤ length s.next
-against_within places s g v Open = omega arith
-against_within places s g v True = (g.starts_at v).1
-against_within places s g v False = (g.starts_at v).0
+against_within places s g v None = omega arith
+against_within places s g v (Some true) = (g.starts_at v).1
+against_within places s g v (Some false) = (g.starts_at v).0
 
 leads_none : (next owner : List ℕ) (i : ℕ) {entry : ℕ} → Leads next owner entry i → entry ≡ 0 → ⊥
 leads_none next owner i (here q j l e) z = omega arith
@@ -158,8 +157,8 @@ module _ (cs : List (List ℤ)) (next owner : List ℕ) (b : List Value) (us : L
       turn (other z) = absurd z
       turn (waits w) = absurd (let g = w.low in let f = w.high in let z : ⊥ = omega arith in z)
 
-pub awake_put : (cs : List (List ℤ)) (b : List Value) (us : List ℕ) (from v : ℕ) (x : Value) (E : ℕ → Type 0) → get_or b v Open ≡ Open → from ≤ length us → Awake cs b us from E → Awake cs (set b v x) (us ++ v ∷ []) from E
+pub awake_put : (cs : List (List ℤ)) (b : List Value) (us : List ℕ) (from v : ℕ) (x : Value) (E : ℕ → Type 0) → get_or b v None ≡ None → from ≤ length us → Awake cs b us from E → Awake cs (set b v x) (us ++ v ∷ []) from E
 awake_put cs b us from v x E o l a i h = watched_put b v x o (get_or cs i []) us from (E i) l (a i h)
 
-pub quiet_put : (cs : List (List ℤ)) (b : List Value) (us : List ℕ) (v : ℕ) (x : Value) → get_or b v Open ≡ Open → Quiet cs b → Awake cs (set b v x) (us ++ v ∷ []) (length us) NoneElse
+pub quiet_put : (cs : List (List ℤ)) (b : List Value) (us : List ℕ) (v : ℕ) (x : Value) → get_or b v None ≡ None → Quiet cs b → Awake cs (set b v x) (us ++ v ∷ []) (length us) NoneElse
 quiet_put cs b us v x o q i h = calm_put b v x o (get_or cs i []) us (length us) ⊥ (omega arith) (q i h)

@@ -1,8 +1,7 @@
 -- Clauses that have to be looked at again.
 use Rattle.std.specs.Prelude.{◌≡◌, ℕ, ◌<◌, ◌≤◌, Bool, List, [], length, ℤ, pos, MatchBool, slice_index, slice_index_or}
 use Rattle.holder.specs.Widest.{variable}
-use Rattle.trials.specs.declared.value.Value.{Value}
-use Rattle.trials.specs.declared.value.Value.TheVariants.{Open, True, False}
+use Rattle.trials.specs.Values.{Value}
 use Rattle.trials.specs.Values.{value}
 use Rattle.trials.specs.Forcing.{Calm, Forcing, Conflict}
 use Rattle.forcing.specs.Boards.{Back}
@@ -17,7 +16,7 @@ pub record Waits (c : List ℤ) (b : List Value) (us : List ℕ) (head : ℕ) : 
   pub place : ℕ
   pub within : place < length c
   pub named : variable (slice_index_or c place (pos 0)) ≡ slice_index us at
-  pub dead : value b (slice_index_or c place (pos 0)) ≡ False
+  pub dead : value b (slice_index_or c place (pos 0)) ≡ Some false
 
 -- calm, or waiting, or known otherwise
 pub data Watched (c : List ℤ) (b : List Value) (us : List ℕ) (head : ℕ) (E : Type 0) : Type 0 where
@@ -42,9 +41,9 @@ pub record Ready (cs : List (List ℤ)) (s : Chains) (a : List Value) (ts : List
 
 -- the chain of the literal of v that is false where v has a value
 abbrev pub against : Chains → ℕ → Value → ℕ
-against s v Open = 0
-against s v True = slice_index s.negative v
-against s v False = slice_index s.positive v
+against s v None = 0
+against s v (Some true) = slice_index s.negative v
+against s v (Some false) = slice_index s.positive v
 
 -- forcing from a to b, and what is left then, or a conflict
 pub record Woken (cs : List (List ℤ)) (a : List Value) (ts : List ℕ) (quiet : Bool) (b : List Value) (us : List ℕ) : Type 0 where

@@ -3,8 +3,7 @@ use Rattle.std.proofs.lemmas.List.{length_push}
 use Rattle.std.proofs.lemmas.Int.{to_z-of_z}
 use Rattle.holder.specs.Widest.{variable}
 use Rattle.clause_store.specs.Made.{stood_of}
-use Rattle.trials.specs.declared.value.Value.{Value}
-use Rattle.trials.specs.declared.value.Value.TheVariants.{Open}
+use Rattle.trials.specs.Values.{Value}
 use Rattle.trials.specs.Values.{value, sign}
 use Rattle.trials.specs.Exist.{Within}
 use Rattle.trials.specs.Forcing.{live, Forced, Calm}
@@ -43,7 +42,7 @@ queue-preserved c rd =
     let from = c.queue.from in
     let v0 = c.set_at-v.result in
     let link0 = c.against-link.result in
-    let e0 : link0 ≡ against s v0 (get_or a1 v0 Open) = c.against-link.ensures ∙ ap (against s v0) (c.value_at.ensures ∙ ap (λ (z : List Value). get_or z v0 Open) c.values.ensures) in
+    let e0 : link0 ≡ against s v0 (get_or a1 v0 None) = c.against-link.ensures ∙ ap (against s v0) (c.value_at.ensures ∙ ap (λ (z : List Value). get_or z v0 None) c.values.ensures) in
     let q = c.queue.invariant rd in
     let t = turning cs s a ts c.args.start rd a1 us1 from q.0 q.2 (omega (arith, c.mark.ensures, c.queue-test.true)) v0 link0 c.set_at-v.ensures e0 in
     let b = assigned c.chain.board in
@@ -107,7 +106,7 @@ chain-preserved-in-Forces c t =
     let sg = c.sign.ensures ∙ ap sign (to_z-of_z w32 l fits) in
     let r = c.in-Forces.ensures in
     let alone : live b (get_or cs i []) ≡ l ∷ [] = ap (λ (z : List ℤ). live b z) (sym cl) ∙ ap (λ (z : List Value). live z c.clause.result.now) (sym vals) ∙ r.0 in
-    let opened : value b l ≡ Open = ap (λ (z : List Value). value z l) (sym vals) ∙ r.1 in
+    let opened : value b l ≡ None = ap (λ (z : List Value). value z l) (sym vals) ∙ r.1 in
     let f : Forced cs b l = record { clause = i; held = held; alone = alone; opened = opened } in
     let w : Within (length b) cs = subst (λ (z : ℕ). Within z cs) (sym (c.chain.invariant t).0.back.long) t.within in
     let v = c.variable.result in
@@ -142,7 +141,7 @@ returns-in-Dead c rd =
     let from = c.queue.from in
     let v0 = c.set_at-v.result in
     let link0 = c.against-link.result in
-    let e0 : link0 ≡ against s v0 (get_or a1 v0 Open) = c.against-link.ensures ∙ ap (against s v0) (c.value_at.ensures ∙ ap (λ (z : List Value). get_or z v0 Open) c.values.ensures) in
+    let e0 : link0 ≡ against s v0 (get_or a1 v0 None) = c.against-link.ensures ∙ ap (against s v0) (c.value_at.ensures ∙ ap (λ (z : List Value). get_or z v0 None) c.values.ensures) in
     let q = c.queue.invariant rd in
     let t = turning cs s a ts c.args.start rd a1 us1 from q.0 q.2 (omega (arith, c.mark.ensures, c.queue-test.true)) v0 link0 c.set_at-v.ensures e0 in
     let ix = t.indexed in

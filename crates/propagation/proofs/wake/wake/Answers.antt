@@ -2,8 +2,7 @@ use Rattle.std.proofs.Common.{◌≡◌, ℕ, ◌+◌, ◌<◌, List, [], ◌∷
 use Rattle.std.proofs.lemmas.Int.{to_z-of_z}
 use Rattle.holder.specs.Widest.{variable}
 use Rattle.clause_store.specs.Made.{stood_of}
-use Rattle.trials.specs.declared.value.Value.{Value}
-use Rattle.trials.specs.declared.value.Value.TheVariants.{Open}
+use Rattle.trials.specs.Values.{Value}
 use Rattle.trials.specs.Values.{value, sign}
 use Rattle.trials.specs.Exist.{Within}
 use Rattle.trials.specs.Forcing.{live, Forced, Calm}
@@ -53,7 +52,7 @@ clauses-preserved-in-Forces c wi =
     let sg = c.sign.ensures ∙ ap sign (to_z-of_z w32 l fits) in
     let r = c.in-Forces.ensures in
     let alone : live b (get_or cs i []) ≡ l ∷ [] = ap (λ (z : List ℤ). live b z) (sym cl) ∙ ap (λ (z : List Value). live z c.clause-clause.result.now) (sym vals) ∙ r.0 in
-    let opened : value b l ≡ Open = ap (λ (z : List Value). value z l) (sym vals) ∙ r.1 in
+    let opened : value b l ≡ None = ap (λ (z : List Value). value z l) (sym vals) ∙ r.1 in
     let f : Forced cs b l = record { clause = i; held = held; alone = alone; opened = opened } in
     let w : Within (length b) cs = subst (λ (z : ℕ). Within z cs) (sym (c.clauses.invariant wi).0.back.long) wi in
     let v = c.variable.result in
