@@ -1,11 +1,11 @@
 -- Clauses that lie one after another: one more, fewer, and one of them.
-use Rattle.std.specs.Prelude.{◌≡◌, ℕ, zero, suc, ◌+◌, ◌-◌, ◌<◌, ◌≤◌, true, List, [], ◌∷◌, ◌++◌, length, take, drop, ℤ, ◌≢◌, slice_index, slice_index_or, refl}
+use Rattle.std.specs.Prelude.{◌≡◌, ℕ, zero, suc, ◌+◌, ◌-◌, ◌<◌, ◌≤◌, true, List, [], ◌∷◌, ◌++◌, length, take, drop, ℤ, slice_index, get_or, slice_index_or, refl}
 use Rattle.std.proofs.Common.{sym, ap, subst, ◌∙◌, arith, length-drop}
 use Rattle.std.proofs.lemmas.Bool.{and_parts, and_from, le-leb, leb-true, eqb-true, eq-eqb}
-use Rattle.std.proofs.lemmas.List.{take-append-le, drop-append-le, drop_at, take_all, take-take}
+use Rattle.std.proofs.lemmas.List.{get_or_past, get_or_read, take-append-le, drop-append-le, drop_at, take_all, take-take}
 use Rattle.std.proofs.lemmas.Slice.{between_is}
 use Rattle.clause_store.specs.Flat.{cut_up, ordered, end_of}
-use Rattle.clause_store.specs.Sizes.{ordered_below}
+use Rattle.clause_store.specs.Sizes.{ordered_below, length-cut_up, size-cut_up}
 
 pub ordered_head : (s e : ℕ) (es : List ℕ) (n : ℕ) → ordered s (e ∷ es) n ≡ true → (s ≤ e) × (e ≤ n) × (ordered e es n ≡ true)
 unfolding ordered
@@ -67,20 +67,20 @@ cut_up-take s (suc n) (e ∷ es) xs m h l =
     let q = cut_up-take e n es xs m t.2 l in
     cc
 
-pub end_of_none : (n : ℕ) (es : List ℕ) → n ≡ 0 → ◌≡◌ {A = ℕ} 0 (end_of 0 n es)
+pub end_of_none : (es : List ℕ) → end_of 0 0 es ≡ 0
 unfolding end_of
-end_of_none n es e = subst (λ k. ◌≡◌ {A = ℕ} 0 (end_of 0 k es)) (sym e) refl
+end_of_none es = refl
 
-pub end_of_suc : (s n : ℕ) (es : List ℕ) → n < length es → slice_index es n ≡ end_of s (suc n) es
+pub end_of_more : (s n : ℕ) (es : List ℕ) (d : ℕ) → n < length es → end_of s (suc n) es ≡ get_or es n d
 unfolding end_of
-end_of_suc s zero [] l = absurd (let w : ⊥ = omega arith in w)
-end_of_suc s (suc n) [] l = absurd (let w : ⊥ = omega arith in w)
-end_of_suc s zero (e ∷ es) l = refl
-end_of_suc s (suc n) (e ∷ es) l = end_of_suc e n es (omega arith)
+end_of_more s zero [] d l = absurd (let w : ⊥ = omega arith in w)
+end_of_more s (suc n) [] d l = absurd (let w : ⊥ = omega arith in w)
+end_of_more s zero (e ∷ es) d l = refl
+end_of_more s (suc n) (e ∷ es) d l = end_of_more e n es d (omega arith)
 
-pub end_of_some : (n : ℕ) (es : List ℕ) → (n ≢ 0) → n ≤ length es → slice_index es (n - 1) ≡ end_of 0 n es
-end_of_some zero es ne l = absurd (ne refl)
-end_of_some (suc n) es ne l = let e : suc n - 1 ≡ n = omega arith in ap (λ k. slice_index es k) e ∙ end_of_suc 0 n es (omega arith)
+pub end_of_some : (n : ℕ) (es : List ℕ) → 0 < n → n ≤ length es → end_of 0 n es ≡ get_or es (n - 1) 0
+end_of_some zero es p l = absurd (let w : ⊥ = omega arith in w)
+end_of_some (suc n) es p l = let e : suc n - 1 ≡ n = omega arith in end_of_more 0 n es 0 (omega arith) ∙ ap (λ k. get_or es k 0) (sym e)
 
 -- the clause at i
 pub cut_up_at : (s i : ℕ) (es : List ℕ) (xs : List ℤ) → i < length es → slice_index_or (cut_up s es xs) i [] ≡ take (slice_index es i - end_of s i es) (drop (end_of s i es) xs)
@@ -98,3 +98,9 @@ end_step s (suc i) (e ∷ es) m h l = end_step e i es m (ordered_head s e es m h
 pub cut_up_none : (xs : List ℤ) → cut_up 0 [] xs ≡ []
 unfolding cut_up
 cut_up_none xs = refl
+
+pub ruleset sizes = (length-cut_up, size-cut_up)
+
+pub ruleset places = (cut_up_at, end_step, length-cut_up, get_or_past)
+
+pub ruleset ends = (end_of_none, end_of_some, get_or_read)

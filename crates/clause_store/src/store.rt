@@ -1,5 +1,5 @@
-// The clause store: literals one after another, and where each clause ends, in memory that is reserved when it is made.
-ghost use Rattle.std.specs.Prelude.{◌≡◌, ◌≤◌, true, vec_len, vec_capacity};
+// The clause store: literals one after another, and where each clause ends, in memory that is reserved when it is made, so that taking a clause cannot fail for want of it.
+ghost use Rattle.std.specs.Prelude.{◌≡◌, ◌≤◌, true, length, vec_len, vec_capacity};
 ghost use Rattle.holder.specs.Clauses.{all_fine};
 ghost use Rattle.clause_store.specs.Flat.{ordered};
 
@@ -14,6 +14,6 @@ pub struct Store {
     ghost literal_room: { most.literals ≤ vec_capacity literals },
     ghost few_clauses: { vec_len ends ≤ most.clauses },
     ghost few_literals: { vec_len literals ≤ most.literals },
-    ghost in_order: { ordered 0 ends.items (vec_len literals) ≡ true },
+    ghost in_order: { ordered 0 ends.items (length literals.items) ≡ true },
     ghost fine: { all_fine literals.items ≡ true },
 }

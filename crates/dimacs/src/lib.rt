@@ -1,7 +1,6 @@
 // The clauses of a holder as DIMACS text.
 #![tactic(auto)]
 
-mod numbers;
 pub mod writing;
 
 pub use writing::write_page;

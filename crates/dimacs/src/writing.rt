@@ -4,7 +4,6 @@ ghost use Rattle.runs.specs.Clauses.{joined};
 ghost use Rattle.holder.specs.Clauses.{size};
 ghost use Rattle.dimacs.specs.Text.{clause_text, page_text};
 
-use crate::numbers::write_literal;
 use holder::held::Holder;
 use std::alloc::{AllocError, Global};
 
@@ -22,7 +21,7 @@ fn write_clause<H: Holder>(
         let Ok(l) = holder.literal(i, j) else {
             break;
         };
-        write_literal(out, l)?;
+        write!(out, "{l} ")?;
     }
     out.push_str("0\n")
 }
