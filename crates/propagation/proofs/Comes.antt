@@ -1,5 +1,5 @@
 -- Forcing on and on.
-use Rattle.std.proofs.Common.{◌≡◌, ℕ, List, [], ◌∷◌, ◌++◌, length, take, drop, set, ℤ, sym, refl, ap, ◌∙◌}
+use Rattle.std.proofs.Common.{◌≡◌, ℕ, List, [], ◌∷◌, ◌++◌, length, take, drop, set, ℤ, sym, refl, ap, ◌∙◌, None}
 use Rattle.std.proofs.lemmas.List.{take-take, take-append-drop, drop-append-le}
 use Rattle.trials.specs.Values.{Value}
 use Rattle.forcing.specs.Boards.{unset, Back}

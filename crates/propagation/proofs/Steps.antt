@@ -1,8 +1,7 @@
 -- One forced literal more.
-use Rattle.std.proofs.Common.{◌≡◌, ℕ, ◌<◌, List, [], ◌∷◌, ◌++◌, length, get_or, set, ℤ, sym, ap, ◌∙◌, subst, arith}
+use Rattle.std.proofs.Common.{◌≡◌, ℕ, ◌<◌, List, [], ◌∷◌, ◌++◌, length, get_or, set, ℤ, sym, ap, ◌∙◌, subst, arith, None}
 use Rattle.holder.specs.Widest.{variable}
-use Rattle.trials.specs.Values.{Value}
-use Rattle.trials.specs.Values.{sign, holding, opens}
+use Rattle.trials.specs.Values.{Value, sign, holding, opens}
 use Rattle.trials.specs.Forcing.{Forced, Forcing, rest, next}
 use Rattle.trials.specs.Exist.{Within, forced_within, open_at, opens_set, sign_set}
 use Rattle.forcing.specs.Boards.{Back}

@@ -1,14 +1,16 @@
 -- What a variable that is set leaves of the clauses that wait.
-use Rattle.std.proofs.Common.{◌≡◌, ℕ, suc, ◌+◌, ◌-◌, ◌<◌, ◌≤◌, cond, ◌⊎◌, List, [], ◌∷◌, ◌++◌, length, get_or, set, ℤ, pos, negsuc, sym, refl, ap, ◌∙◌, subst, inl, inr, arith}
+use Rattle.std.proofs.Common.{◌≡◌, ℕ, suc, ◌+◌, ◌-◌, ◌<◌, ◌≤◌, cond, ◌⊎◌, List, [], ◌∷◌, ◌++◌, length, get_or, set, ℤ, pos, negsuc, sym, refl, ap, ◌∙◌, subst, inl, inr, arith, None, Some, true, false, Option, slice_get}
 use Rattle.std.proofs.lemmas.Bool.{cases_eq}
 use Rattle.std.proofs.lemmas.List.{get_or_append_left, get_or_push, get_or-set_other, length_push}
 use Rattle.holder.specs.Widest.{variable}
-use Rattle.trials.specs.Values.{Value}
-use Rattle.trials.specs.Values.{value, is_false, flip, sign}
+use Rattle.trials.specs.Values.{Value, value, is_false, flip, sign}
 use Rattle.trials.specs.Forcing.{live, Calm, Quiet}
-use Rattle.trials.proofs.Below.{Below, below_true, below_false, true_set, false_set, flip_back, live_below}
-use Rattle.forcing.proofs.Judging.{calm_true}
-use Rattle.propagation.specs.Chains.{Chains, Leads, here, there, head, Good, Indexes}
+use Rattle.trials.proofs.Below.{Below, below_true, below_false, set_not_open, flip_back, live_below}
+use Rattle.forcing.proofs.Judging.{calm_set}
+use Rattle.std.proofs.lemmas.Option.{slice_get-get_or, get_or_from_slice_get}
+use Rattle.std.specs.Option.{option_and_then}
+use Rattle.propagation.specs.declared.index.Entry.{Entry}
+use Rattle.propagation.specs.Chains.{Chains, no_entry, heads_at, entry_at, Leads, here, there, head, Indexes}
 use Rattle.propagation.specs.Waits.{Watched, calm, waits, other, Awake, NoneElse, against}
 
 pub below_put : (b : List Value) (v : ℕ) (x : Value) → get_or b v None ≡ None → Below b (set b v x)
@@ -19,8 +21,8 @@ below_put b v x o w y e s = elim (cases_eq w v) [
 
 open_back_by : (b d : List Value) → Below b d → (l : ℤ) → value d l ≡ None → (x : Value) → value b l ≡ x → value b l ≡ None
 open_back_by b d less l o None e = e
-open_back_by b d less l o (Some true) e = absurd (true_set (sym (below_true b d less l e) ∙ o))
-open_back_by b d less l o (Some false) e = absurd (false_set (sym (below_false b d less l e) ∙ o))
+open_back_by b d less l o (Some true) e = absurd (set_not_open (sym (below_true b d less l e) ∙ o))
+open_back_by b d less l o (Some false) e = absurd (set_not_open (sym (below_false b d less l e) ∙ o))
 
 open_back : (b d : List Value) → Below b d → (l : ℤ) → value d l ≡ None → value b l ≡ None
 open_back b d less l o = open_back_by b d less l o (value b l) refl
@@ -92,7 +94,7 @@ forced_calm b c l v x alone opened n s w =
     let o = subst (λ (k : ℕ). get_or b k None ≡ None) (sym n) (Rattle.trials.specs.Exist.open_at b l opened) in
     let t = now_true l v x n s w in
     let e : live (set b v x) c ≡ l ∷ [] = sym (live_below b (set b v x) (below_put b v x o) c) ∙ ap (live (set b v x)) alone ∙ rw t in
-    calm_true (set b v x) c l [] e t
+    calm_set (set b v x) c l [] e (λ o. let z : ◌≡◌ {A = Value} (Some true) None = sym t ∙ o in cc)
   where
     now_true : (l : ℤ) (v : ℕ) (x : Value) → v ≡ variable l → x ≡ sign l → v < length b → value (set b v x) l ≡ Some true
     now_true (pos k) v x n s w = ap (λ (z : ℕ). get_or (set b v x) z None) (sym n) ∙ Rattle.std.proofs.lemmas.List.get_or-set_same b v x None w ∙ s
@@ -100,54 +102,60 @@ forced_calm b c l v x alone opened n s w =
 
 -- the chain of the literal that v made false
 against_is : (s : Chains) (b : List Value) (l : ℤ) (v : ℕ) → variable l ≡ v → value b l ≡ Some false → head s l ≡ against s v (get_or b v None)
-against_is s b (pos n) v e f = ap (λ (z : ℕ). get_or s.positive z 0) e ∙ ap (against s v) (sym (sym (ap (λ (z : ℕ). get_or b z None) e) ∙ f))
+against_is s b (pos n) v e f = ap (λ (z : ℕ). (heads_at s.heads z).positive) e ∙ ap (against s v) (sym (sym (ap (λ (z : ℕ). get_or b z None) e) ∙ f))
 against_is s b (negsuc n) v e f =
     let g : get_or b (suc n) None ≡ Some true = flip_back (get_or b (suc n) None) (Some false) f in
-    ap (λ (z : ℕ). get_or s.negative z 0) e ∙ ap (against s v) (sym (sym (ap (λ (z : ℕ). get_or b z None) e) ∙ g))
+    ap (λ (z : ℕ). (heads_at s.heads z).negative) e ∙ ap (against s v) (sym (sym (ap (λ (z : ℕ). get_or b z None) e) ∙ g))
 
 module _ (cs : List (List ℤ)) (places : ℕ) (s : Chains) (ix : Indexes cs places s) (b : List Value) (us : List ℕ) where
   -- the clauses that wait for the variable at `from` stand in one chain
-  pub awake_next : (from v entry : ℕ) → v ≡ get_or us from 0 → entry ≡ against s v (get_or b v None) → Awake cs b us from NoneElse → Awake cs b us (from + 1) (λ i. Leads s.next s.owner entry i)
+  pub awake_next : (from v : ℕ) (entry : Option ℕ) → v ≡ get_or us from 0 → entry ≡ against s v (get_or b v None) → Awake cs b us from NoneElse → Awake cs b us (from + 1) (λ i. Leads s.entries entry i)
   awake_next from v entry n e a i h = turn (a i h)
     where
-      turn : Watched (get_or cs i []) b us from ⊥ → Watched (get_or cs i []) b us (from + 1) (Leads s.next s.owner entry i)
+      turn : Watched (get_or cs i []) b us from ⊥ → Watched (get_or cs i []) b us (from + 1) (Leads s.entries entry i)
       turn (calm k) = calm k
       turn (other z) = absurd z
       turn (waits w) = elim (cases_eq w.at from) [
-        | inl z ↦ other (subst (λ (k : ℕ). Leads s.next s.owner k i) (against_is s b (get_or (get_or cs i []) w.place (pos 0)) v (w.named ∙ ap (λ (k : ℕ). get_or us k 0) z ∙ sym n) w.dead ∙ sym e) (ix.all i h w.place w.within))
+        | inl z ↦ other (subst (λ (k : Option ℕ). Leads s.entries k i) (against_is s b (get_or (get_or cs i []) w.place (pos 0)) v (w.named ∙ ap (λ (k : ℕ). get_or us k 0) z ∙ sym n) w.dead ∙ sym e) (ix.all i h w.place w.within))
         | inr ne ↦ waits (record { at = w.at; low = (let g = w.low in omega arith); high = w.high; place = w.place; within = w.within; named = w.named; dead = w.dead })
       ]
 
-pub against_within : (places : ℕ) (s : Chains) → Good places s → (v : ℕ) (x : Value) → against s v x ≤ length s.next
-against_within places s g v None = omega arith
-against_within places s g v (Some true) = (g.starts_at v).1
-against_within places s g v (Some false) = (g.starts_at v).0
+leads_some : (es : List Entry) (i : ℕ) {link : Option ℕ} → Leads es link i → (q : ℕ) × (link ≡ Some q) × (q < length es)
+leads_some es i (here q j l e) = (q, refl, l)
+leads_some es i (there q j l r) = (q, refl, l)
 
-leads_none : (next owner : List ℕ) (i : ℕ) {entry : ℕ} → Leads next owner entry i → entry ≡ 0 → ⊥
-leads_none next owner i (here q j l e) z = omega arith
-leads_none next owner i (there q j l r) z = omega arith
+leads_on : (es : List Entry) (q i : ℕ) → Leads es (Some q) i → ((entry_at es q).owner ≡ i) ⊎ Leads es (entry_at es q).next i
+leads_on es q i r = on r refl
+  where
+    on : {link : Option ℕ} → Leads es link i → link ≡ Some q → ((entry_at es q).owner ≡ i) ⊎ Leads es (entry_at es q).next i
+    on (here p j l e) z = let k : p ≡ q = cc in inl (ap (λ n. (entry_at es n).owner) (sym k) ∙ e)
+    on (there p j l r) z = let k : p ≡ q = cc in inr (subst (λ n. Leads es (entry_at es n).next i) k r)
 
-leads_on : (next owner : List ℕ) {entry i : ℕ} → Leads next owner entry i → (get_or owner (entry - 1) 0 ≡ i) ⊎ Leads next owner (get_or next (entry - 1) 0) i
-leads_on next owner (here q i l e) = let z : suc q - 1 ≡ q = omega arith in inl (ap (λ (k : ℕ). get_or owner k 0) z ∙ e)
-leads_on next owner (there q i l r) = let z : q ≡ suc q - 1 = omega arith in inr (subst (λ (k : ℕ). Leads next owner (get_or next k 0) i) z r)
-
-module _ (cs : List (List ℤ)) (next owner : List ℕ) (b : List Value) (us : List ℕ) (from : ℕ) where
-  pub awake_end : (entry : ℕ) → entry ≡ 0 → Awake cs b us from (λ i. Leads next owner entry i) → Awake cs b us from NoneElse
-  awake_end entry z a i h = turn (a i h)
+module _ (cs : List (List ℤ)) (es : List Entry) (b : List Value) (us : List ℕ) (from : ℕ) where
+  -- a chain that is at its end
+  pub awake_end : (link : Option ℕ) → option_and_then (slice_get es) link ≡ None → Awake cs b us from (λ i. Leads es link i) → Awake cs b us from NoneElse
+  awake_end link e a i h = turn (a i h)
     where
-      turn : Watched (get_or cs i []) b us from (Leads next owner entry i) → Watched (get_or cs i []) b us from ⊥
+      turn : Watched (get_or cs i []) b us from (Leads es link i) → Watched (get_or cs i []) b us from ⊥
       turn (calm k) = calm k
       turn (waits w) = waits w
-      turn (other r) = absurd (leads_none next owner i r z)
+      turn (other r) = absurd (let t = leads_some es i r in let z : None ≡ Some (get_or es t.0 no_entry) = sym e ∙ ap (option_and_then (slice_get es)) t.1 ∙ slice_get-get_or es t.0 no_entry t.2 in cc)
 
   -- the first clause of the chain is calm
-  pub awake_visited : (entry : ℕ) → Calm b (get_or cs (get_or owner (entry - 1) 0) []) → Awake cs b us from (λ i. Leads next owner entry i) → Awake cs b us from (λ i. Leads next owner (get_or next (entry - 1) 0) i)
-  awake_visited entry k a i h = turn (a i h)
+  pub awake_visited : (link : Option ℕ) (x : Entry) → option_and_then (slice_get es) link ≡ Some x → Calm b (get_or cs x.owner []) → Awake cs b us from (λ i. Leads es link i) → Awake cs b us from (λ i. Leads es x.next i)
+  awake_visited None x e k a i h = cc
+  awake_visited (Some q) x e k a i h = turn (a i h)
     where
-      turn : Watched (get_or cs i []) b us from (Leads next owner entry i) → Watched (get_or cs i []) b us from (Leads next owner (get_or next (entry - 1) 0) i)
+      at : entry_at es q ≡ x
+      at = get_or_from_slice_get es q x no_entry e
+
+      turn : Watched (get_or cs i []) b us from (Leads es (Some q) i) → Watched (get_or cs i []) b us from (Leads es x.next i)
       turn (calm k) = calm k
       turn (waits w) = waits w
-      turn (other r) = elim (leads_on next owner r) [ inl e ↦ calm (subst (λ (z : ℕ). Calm b (get_or cs z [])) e k) | inr t ↦ other t ]
+      turn (other r) = elim (leads_on es q i r) [
+        | inl o ↦ calm (subst (λ (z : ℕ). Calm b (get_or cs z [])) (sym (ap (λ (z : Entry). z.owner) at) ∙ o) k)
+        | inr t ↦ other (subst (λ (z : Entry). Leads es z.next i) at t)
+      ]
 
   pub awake_quiet : length us ≤ from → Awake cs b us from NoneElse → Quiet cs b
   awake_quiet l a i h = turn (a i h)
