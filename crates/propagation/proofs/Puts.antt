@@ -1,5 +1,5 @@
 -- A board on which a forced literal is set.
-use Rattle.std.proofs.Common.{◌≡◌, ℕ, ◌+◌, ◌<◌, ◌≤◌, List, [], ◌∷◌, ◌++◌, length, get_or, set, ℤ, None, sym, refl, ap, ◌∙◌, subst, arith}
+use Rattle.std.proofs.Common.{◌≡◌, ℕ, ◌<◌, ◌≤◌, List, [], ◌∷◌, length, get_or, set, ℤ, None, sym, subst, arith}
 use Rattle.std.proofs.lemmas.List.{length_push}
 use Rattle.holder.specs.Widest.{variable}
 use Rattle.trials.specs.Values.{Value, value, sign}

@@ -1,5 +1,5 @@
 -- Chains of entries, one for each literal.
-use Rattle.std.specs.Prelude.{◌≡◌, ℕ, suc, ◌+◌, ◌<◌, List, [], ◌∷◌, ◌++◌, length, replicate, ℤ, pos, negsuc, None, Some, Option, slice_get, slice_index_or, slice_set}
+use Rattle.std.specs.Prelude.{◌≡◌, ℕ, suc, ◌<◌, List, [], ◌∷◌, ◌++◌, length, replicate, ℤ, pos, negsuc, None, Some, Option, slice_get, slice_index_or, slice_set}
 use Rattle.std.specs.Option.{ForSome, option_and_then}
 use Rattle.holder.specs.Widest.{variable}
 use Rattle.propagation.specs.declared.index.Entry.{Entry}

@@ -1,17 +1,17 @@
-use Rattle.std.proofs.Common.{◌≡◌, ℕ, ◌+◌, ◌<◌, List, [], ◌∷◌, length, get_or, ℤ, None, sym, ap, ◌∙◌, subst, arith, w32, SFits, rules}
+use Rattle.std.proofs.Common.{◌≡◌, ℕ, [], ◌∷◌, length, get_or, None, sym, ap, ◌∙◌, subst, arith, w32, SFits, rules}
 use Rattle.std.proofs.lemmas.Int.{to_z-of_z}
 use Rattle.std.proofs.lemmas.Iterator.Consumers.{YieldsList-from_first, YieldsList-turn, YieldsList-end}
 use Rattle.std.proofs.lemmas.List.{length_push, get_or_default}
 use Rattle.holder.specs.Widest.{variable}
 use Rattle.clause_store.specs.Made.{stood_of}
-use Rattle.trials.specs.Values.{Value, value, sign}
+use Rattle.trials.specs.Values.{value, sign}
 use Rattle.trials.specs.Exist.{Within}
 use Rattle.trials.specs.Forcing.{live, Calm}
 use Rattle.forcing.specs.Boards.{assigned, trailed}
 use Rattle.forcing.proofs.Backs.{back_within}
-use Rattle.propagation.proofs.Steps.{Come, come_none}
+use Rattle.propagation.proofs.Steps.{come_none}
 use Rattle.propagation.proofs.Puts.{judged, step}
-use Rattle.propagation.proofs.Watching.{WatchedTo, watched_calm, watched_all}
+use Rattle.propagation.proofs.Watching.{watched_calm, watched_all}
 use Rattle.propagation.proofs.wake.wake.Goals as goal
 
 pub clauses-init : goal.clauses-init

@@ -1,4 +1,4 @@
-use Rattle.std.proofs.Common.{◌≡◌, ◌<◌, length, get_or, take, ℤ, pos, vec_items, sym, refl, ap, ◌∙◌, subst, arith, length-take, w32, SFits, rules}
+use Rattle.std.proofs.Common.{◌≡◌, length, get_or, take, ℤ, pos, vec_items, sym, refl, ap, ◌∙◌, arith, length-take, w32, SFits, rules}
 use Rattle.std.proofs.lemmas.Int.{to_z-of_z}
 use Rattle.std.proofs.lemmas.List.{take_more, take_all}
 use Rattle.holder.specs.Widest.{variable}
