@@ -251,11 +251,6 @@ unfolding added_all
 all_long s [] i = omega arith
 all_long s (c ∷ cs) i = let h = all_long (added_clause s c i) cs (suc i) in let k = clause_long s c i in omega arith
 
-pub within_take : (places : ℕ) (c : List ℤ) (k : ℕ) → WithinClause places c → WithinClause places (take k c)
-within_take places c zero w = tt
-within_take places [] (suc k) w = tt
-within_take places (l ∷ c) (suc k) w = (w.0, within_take places c k w.1)
-
 pub all_within_take : (places : ℕ) (cs : List (List ℤ)) (k : ℕ) → Within places cs → Within places (take k cs)
 all_within_take places cs zero w i h = absurd (let z : ⊥ = omega arith in z)
 all_within_take places [] (suc k) w i h = absurd (let z : ⊥ = omega arith in z)

@@ -1,9 +1,9 @@
 -- One forced literal more.
 use Rattle.std.proofs.Common.{◌≡◌, ℕ, ◌<◌, List, [], ◌∷◌, ◌++◌, length, get_or, set, ℤ, sym, ap, ◌∙◌, subst, arith, None}
 use Rattle.holder.specs.Widest.{variable}
-use Rattle.trials.specs.Values.{Value, sign, holding, opens}
+use Rattle.trials.specs.Values.{Value, sign, holding}
 use Rattle.trials.specs.Forcing.{Forced, Forcing, rest, next}
-use Rattle.trials.specs.Exist.{Within, forced_within, open_at, opens_set, sign_set}
+use Rattle.trials.specs.Exist.{Within, forced_within, open_at, sign_set}
 use Rattle.forcing.specs.Boards.{Back}
 use Rattle.forcing.proofs.Backs.{back_none, back_put}
 use Rattle.trials.proofs.Confluence.{forcing_more}
@@ -25,9 +25,6 @@ module _ (cs : List (List ℤ)) (b : List Value) (l : ℤ) (f : Forced cs b l) (
 
   pub forced_in : Within (length b) cs → v < length b
   forced_in w = let h = forced_within (length b) cs b l w f in omega arith
-
-  pub forced_fewer : Within (length b) cs → opens (set b v x) < opens b
-  forced_fewer w = let h = opens_set b v x (forced_in w) forced_open forced_set in omega arith
 
   pub come_more : (a : List Value) (ts us : List ℕ) → Come cs a ts b us → Come cs a ts (set b v x) (us ++ v ∷ [])
   come_more a ts us r =

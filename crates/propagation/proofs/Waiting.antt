@@ -164,9 +164,3 @@ module _ (cs : List (List ℤ)) (es : List Entry) (b : List Value) (us : List �
       turn (calm k) = k
       turn (other z) = absurd z
       turn (waits w) = absurd (let g = w.low in let f = w.high in let z : ⊥ = omega arith in z)
-
-pub awake_put : (cs : List (List ℤ)) (b : List Value) (us : List ℕ) (from v : ℕ) (x : Value) (E : ℕ → Type 0) → get_or b v None ≡ None → from ≤ length us → Awake cs b us from E → Awake cs (set b v x) (us ++ v ∷ []) from E
-awake_put cs b us from v x E o l a i h = watched_put b v x o (get_or cs i []) us from (E i) l (a i h)
-
-pub quiet_put : (cs : List (List ℤ)) (b : List Value) (us : List ℕ) (v : ℕ) (x : Value) → get_or b v None ≡ None → Quiet cs b → Awake cs (set b v x) (us ++ v ∷ []) (length us) NoneElse
-quiet_put cs b us v x o q i h = calm_put b v x o (get_or cs i []) us (length us) ⊥ (omega arith) (q i h)
