@@ -16,7 +16,7 @@ fn first_open(values: &[Option<bool>], from: usize, n: usize) -> Option<usize>
 fn write_bytes(values: &[Option<bool>], n: usize, buffer: &mut [u8])
     ensures { Shown n values.now buffer.old buffer.new }
 {
-    // By number, since an adapter of iter_mut says nothing of what is written.
+    // By number: over iter_mut and zip the proof did not close, since nothing is known there of what is written.
     let count = n.min(buffer.len());
     for k in 0..count {
         buffer[k] = u8::from(value_at(values, k + 1) == Some(true));

@@ -26,6 +26,7 @@ impl Index {
         }
     }
 
+    // The entry at which a chain goes on.
     fn entry(&self, link: Option<usize>) -> Option<Entry>
         ensures { result ≡ entry_of (chains self.now) link }
     {
