@@ -1,34 +1,30 @@
 -- Boards: variables set and opened again.
-use Rattle.std.proofs.Common.{◌≡◌, ℕ, zero, suc, ◌+◌, ◌-◌, ◌<◌, ◌≤◌, List, [], ◌∷◌, ◌++◌, length, get_or, take, drop, set, replicate, sym, refl, ap, ◌∙◌, arith, length-set, length-take}
+use Rattle.std.proofs.Common.{◌≡◌, ℕ, zero, suc, ◌+◌, ◌-◌, ◌<◌, ◌≤◌, List, [], ◌∷◌, ◌++◌, length, get_or, take, drop, set, replicate, sym, refl, ap, ◌∙◌, arith, length-set, length-take, None, Some}
 use Rattle.std.proofs.lemmas.List.{take_more, take_all, drop-append-le, take-append-le, set-set, set-get_or, drop_all}
-use Rattle.trials.specs.declared.value.Value.{Value}
-use Rattle.trials.specs.declared.value.Value.TheVariants.{Open, True, False}
-use Rattle.trials.specs.Values.{opens}
+use Rattle.trials.specs.Values.{Value, opens}
 use Rattle.forcing.specs.Boards.{unset, Back}
 
 pub opens_none : opens [] ≡ 0
 unfolding opens
 opens_none = refl
 
-pub opens_all : (n : ℕ) → opens (replicate n Open) ≡ n
+pub opens_all : (n : ℕ) → opens (replicate n None) ≡ n
 unfolding opens
 opens_all zero = refl
 opens_all (suc n) = ap suc (opens_all n)
 
-pub opens_reset : (a : List Value) (v : ℕ) → opens (set a v Open) ≤ opens a + 1
+pub opens_reset : (a : List Value) (v : ℕ) → opens (set a v None) ≤ opens a + 1
 unfolding opens
 opens_reset [] v = omega arith
-opens_reset (Open ∷ a) zero = omega arith
-opens_reset (True ∷ a) zero = omega arith
-opens_reset (False ∷ a) zero = omega arith
-opens_reset (Open ∷ a) (suc v) = let h = opens_reset a v in omega arith
-opens_reset (True ∷ a) (suc v) = opens_reset a v
-opens_reset (False ∷ a) (suc v) = opens_reset a v
+opens_reset (None ∷ a) zero = omega arith
+opens_reset (Some b ∷ a) zero = omega arith
+opens_reset (None ∷ a) (suc v) = let h = opens_reset a v in omega arith
+opens_reset (Some b ∷ a) (suc v) = opens_reset a v
 
-unset_push : (a : List Value) (vs : List ℕ) (w : ℕ) → unset a (vs ++ w ∷ []) ≡ unset (set a w Open) vs
+unset_push : (a : List Value) (vs : List ℕ) (w : ℕ) → unset a (vs ++ w ∷ []) ≡ unset (set a w None) vs
 unfolding unset
 unset_push a [] w = refl
-unset_push a (v ∷ vs) w = ap (λ z. set z v Open) (unset_push a vs w)
+unset_push a (v ∷ vs) w = ap (λ z. set z v None) (unset_push a vs w)
 
 pub unset_none : (a : List Value) → unset a [] ≡ a
 unfolding unset
@@ -37,10 +33,10 @@ unset_none a = refl
 pub unset_long : (a : List Value) (vs : List ℕ) → length (unset a vs) ≡ length a
 unfolding unset
 unset_long a [] = refl
-unset_long a (v ∷ vs) = length-set (unset a vs) v Open ∙ unset_long a vs
+unset_long a (v ∷ vs) = length-set (unset a vs) v None ∙ unset_long a vs
 
 -- the variable that was set last opens first
-pub unset_last : (a : List Value) (ts : List ℕ) (m : ℕ) → m < length ts → unset (set a (get_or ts (length ts - 1) 0) Open) (drop m (take (length ts - 1) ts)) ≡ unset a (drop m ts)
+pub unset_last : (a : List Value) (ts : List ℕ) (m : ℕ) → m < length ts → unset (set a (get_or ts (length ts - 1) 0) None) (drop m (take (length ts - 1) ts)) ≡ unset a (drop m ts)
 unset_last a ts m h =
     let k = length ts - 1 in
     let j : k < length ts = omega arith in
@@ -56,11 +52,11 @@ back_none a ts = record { front = take_all (length ts) ts (omega arith); undone 
 pub back_within : (a : List Value) (ts : List ℕ) (b : List Value) (us : List ℕ) → Back a ts b us → length ts ≤ length us
 back_within a ts b us r = let e = ap length r.front in let f = length-take (length ts) us in omega arith
 
-pub back_put : (a : List Value) (ts : List ℕ) (b : List Value) (us : List ℕ) → Back a ts b us → (v : ℕ) (x : Value) → get_or b v Open ≡ Open → Back a ts (set b v x) (us ++ v ∷ [])
+pub back_put : (a : List Value) (ts : List ℕ) (b : List Value) (us : List ℕ) → Back a ts b us → (v : ℕ) (x : Value) → get_or b v None ≡ None → Back a ts (set b v x) (us ++ v ∷ [])
 back_put a ts b us r v x o =
     let n = length ts in
     let l = back_within a ts b us r in
-    let s : set (set b v x) v Open ≡ b = set-set b v x Open ∙ ap (set b v) (sym o) ∙ set-get_or b v Open in
+    let s : set (set b v x) v None ≡ b = set-set b v x None ∙ ap (set b v) (sym o) ∙ set-get_or b v None in
     record {
       front = take-append-le n us (v ∷ []) l ∙ r.front;
       undone = ap (unset (set b v x)) (drop-append-le n us (v ∷ []) l) ∙ unset_push (set b v x) (drop n us) v ∙ ap (λ z. unset z (drop n us)) s ∙ r.undone;

@@ -1,36 +1,45 @@
 -- A clause, literal by literal.
-use Rattle.std.proofs.Common.{◌≡◌, ℕ, ◌+◌, ◌<◌, ◌≤◌, true, false, List, [], ◌∷◌, length, get_or, drop, ℤ, pos, sym, ◌∙◌, subst, arith}
-use Rattle.std.proofs.lemmas.List.{at_drop_more, at_drop_all}
-use Rattle.trials.specs.declared.value.Value.{Value}
-use Rattle.trials.specs.declared.value.Value.TheVariants.{Open, True}
-use Rattle.trials.specs.Values.{value, is_false}
+use Rattle.std.proofs.Common.{◌≡◌, Bool, true, false, cond, not, List, [], ◌∷◌, filter, ℤ, None, Some, Option, sym, refl, ap, subst, is_some}
+use Rattle.std.proofs.lemmas.Iterator.{YieldsList}
+use Rattle.trials.specs.Values.{Value, value, is_false}
 use Rattle.trials.specs.Forcing.{live, Calm}
-use Rattle.trials.proofs.Below.{true_set}
 
-module _ (a : List Value) (c : List ℤ) (k : ℕ) where
-  pub live_false : k < length c → is_false (value a (get_or c k (pos 0))) ≡ true → live a (drop k c) ≡ live a (drop (k + 1) c)
-  unfolding live
-  live_false l e = at_drop_more (live a) c k (pos 0) l ∙ rw e
+-- whether a literal is not false
+abbrev pub lives : List Value → ℤ → Bool
+lives a l = not (is_false (value a l))
 
-  pub live_stands : k < length c → is_false (value a (get_or c k (pos 0))) ≡ false → live a (drop k c) ≡ get_or c k (pos 0) ∷ live a (drop (k + 1) c)
-  unfolding live
-  live_stands l e = at_drop_more (live a) c k (pos 0) l ∙ rw e
+-- the literals that are not false are those that pass the test
+pub live_filter : (a : List Value) (c : List ℤ) → filter (lives a) c ≡ live a c
+unfolding live
+live_filter a [] = refl
+live_filter a (l ∷ c) = elim (is_false (value a l)) as (λ b. cond (not b) (l ∷ filter (lives a) c) (filter (lives a) c) ≡ cond b (live a c) (l ∷ live a c)) [ true ↦ live_filter a c | false ↦ ap (λ z. l ∷ z) (live_filter a c) ]
 
-  pub live_end : length c ≤ k → live a (drop k c) ≡ []
-  unfolding live
-  live_end l = at_drop_all (live a) c k l
+-- an iterator, item by item
+module _ {S A B : Type 0} {steps : S → Option A → S → Type 0} {v : A → B} {s : S} where
+  pub yields_none : (ys : List B) → YieldsList steps v s ys → (r : Option A) (t : S) → r ≡ None → steps s r t → ys ≡ []
+  yields_none [] e r t n p = refl
+  yields_none (y ∷ ys) e r t n p = absurd (e.runs.0 t (subst (λ z. steps s z t) n p))
+
+  pub yields_some : (ys : List B) → YieldsList steps v s ys → (r : Option A) (x : A) (t : S) → r ≡ Some x → steps s r t → (zs : List B) × (ys ≡ v x ∷ zs) × YieldsList steps v t zs
+  yields_some [] e r x t n p = absurd (e.runs x t (subst (λ z. steps s z t) n p))
+  yields_some (y ∷ ys) e r x t n p = let m = e.runs.1 x t (subst (λ z. steps s z t) n p) in (ys, ap (λ z. z ∷ ys) (sym m.0), record { runs = m.1 })
 
 module _ (a : List Value) (c : List ℤ) (l : ℤ) (ls : List ℤ) (lives : live a c ≡ l ∷ ls) where
   -- a literal that is true
-  pub calm_true : value a l ≡ True → Calm a c
-  calm_true e = record {
-    alive = λ d. let z : ◌≡◌ {A = ℕ} 0 1 = cc in omega arith;
-    still = λ k d o. let s : l ≡ k = cc in true_set (sym e ∙ subst (λ (z : ℤ). value a z ≡ Open) (sym s) o);
+  pub calm_set : (value a l ≡ None → ⊥) → Calm a c
+  calm_set s = record {
+    alive = λ d. cc;
+    still = λ k d o. let e : l ≡ k = cc in s (subst (λ (z : ℤ). value a z ≡ None) (sym e) o);
   }
 
   -- two literals that are not false
   pub calm_two : (m : ℤ) (ms : List ℤ) → ls ≡ m ∷ ms → Calm a c
-  calm_two m ms e = record {
-    alive = λ d. let z : ◌≡◌ {A = ℕ} 0 1 = cc in omega arith;
-    still = λ k d o. let z : ◌≡◌ {A = ℕ} 0 1 = cc in omega arith;
-  }
+  calm_two m ms e = record { alive = λ d. cc; still = λ k d o. cc }
+
+pub none_from : {A : Type 0} (o : Option A) → is_some o ≡ false → o ≡ None
+none_from None e = refl
+none_from (Some x) e = cc
+
+pub some_from : {A : Type 0} (o : Option A) → is_some o ≡ true → (x : A) × (o ≡ Some x)
+some_from None e = cc
+some_from (Some x) e = (x, refl)

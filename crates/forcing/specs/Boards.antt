@@ -1,7 +1,6 @@
 -- What a board holds, how it changes and how it goes back.
-use Rattle.std.specs.Prelude.{◌≡◌, ℕ, Bool, true, false, cond, not, ◌&&◌, List, [], ◌∷◌, ◌++◌, length, take, drop, ℤ, vec_items, MatchBool, nat_lt, slice_index_or, slice_set}
-use Rattle.trials.specs.declared.value.Value.{Value}
-use Rattle.trials.specs.declared.value.Value.TheVariants.{Open, True, False}
+use Rattle.std.specs.Prelude.{◌≡◌, ℕ, Bool, cond, ◌&&◌, List, [], ◌∷◌, ◌++◌, length, take, drop, ℤ, vec_items, MatchBool, nat_lt, slice_index_or, slice_set, None, is_none, is_some}
+use Rattle.trials.specs.Values.{Value}
 use Rattle.trials.specs.Forcing.{Forcing, Conflict, Quiet}
 use Rattle.forcing.specs.declared.board.Board.{Board}
 
@@ -13,15 +12,9 @@ assigned b = vec_items b.values
 abbrev pub trailed : Board → List ℕ
 trailed b = vec_items b.trail
 
--- no value yet
-abbrev pub is_open : Value → Bool
-is_open Open = true
-is_open True = false
-is_open False = false
-
 -- a variable that is listed and open, and a value that is not
 abbrev pub settable : List Value → ℕ → Value → Bool
-settable a v x = nat_lt v (length a) && (is_open (slice_index_or a v Open) && not (is_open x))
+settable a v x = nat_lt v (length a) && (is_none (slice_index_or a v None) && is_some x)
 
 -- the assignment and the trail before and after v is set to x
 pub record WasPut (a : List Value) (ts : List ℕ) (v : ℕ) (x : Value) (b : List Value) (us : List ℕ) : Type 0 where
@@ -31,7 +24,7 @@ pub record WasPut (a : List Value) (ts : List ℕ) (v : ℕ) (x : Value) (b : Li
 -- the variables vs open again
 unfoldable pub unset : List Value → List ℕ → List Value
 unset a [] = a
-unset a (v ∷ vs) = slice_set (unset a vs) v Open
+unset a (v ∷ vs) = slice_set (unset a vs) v None
 
 -- what the trail got after ts, undone, leads back to a
 pub record Back (a : List Value) (ts : List ℕ) (b : List Value) (us : List ℕ) : Type 0 where

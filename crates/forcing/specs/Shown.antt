@@ -1,20 +1,18 @@
 -- An assignment as bytes.
-use Rattle.std.specs.Prelude.{◌≡◌, ℕ, ◌+◌, ◌<◌, ◌≤◌, List, length, take, drop, ℤ, slice_index, slice_index_or}
+use Rattle.std.specs.Prelude.{◌≡◌, ℕ, ◌+◌, ◌<◌, ◌≤◌, List, length, take, drop, ℤ, slice_index, slice_index_or, None, Some, true, false}
 use Rattle.runs.specs.Models.{Model}
 use Rattle.settler.specs.Settling.{Fills}
-use Rattle.trials.specs.declared.value.Value.{Value}
-use Rattle.trials.specs.declared.value.Value.TheVariants.{Open, True, False}
-use Rattle.trials.specs.Values.{model_of}
+use Rattle.trials.specs.Values.{Value, model_of}
 
 -- 1 for true, else 0
 abbrev pub byte : Value → ℕ
-byte Open = 0
-byte True = 1
-byte False = 0
+byte None = 0
+byte (Some true) = 1
+byte (Some false) = 0
 
 -- of the first n bytes, byte k has the value of variable k + 1; the others are left
 pub record Shown (n : ℕ) (a : List Value) (b b' : List ℕ) : Type 0 where
-  pub at : (k : ℕ) → k < n → k < length b → slice_index b' k ≡ byte (slice_index_or a (k + 1) Open)
+  pub at : (k : ℕ) → k < n → k < length b → slice_index b' k ≡ byte (slice_index_or a (k + 1) None)
   pub after : drop n b' ≡ drop n b
   pub long : length b' ≡ length b
 

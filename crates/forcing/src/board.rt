@@ -3,12 +3,10 @@ ghost use Rattle.std.specs.Prelude.{◌≡◌, ◌+◌, ◌<◌, ◌≤◌, vec_
 ghost use Rattle.refusals.specs.Limits.{most_variables};
 ghost use Rattle.trials.specs.Values.{opens};
 
-use trials::value::Value;
-
-// Place 0 of the values is not used.
+// A variable is open while it has no value. Place 0 of the values is not used.
 #[derive(Drop)]
 pub struct Board {
-    pub(crate) values: Vec<Value>,
+    pub(crate) values: Vec<Option<bool>>,
     pub(crate) trail: Vec<usize>,
     ghost values_room: { most_variables < vec_capacity values },
     ghost trail_room: { most_variables < vec_capacity trail },

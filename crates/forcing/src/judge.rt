@@ -1,15 +1,11 @@
 // What an assignment makes of one clause.
-ghost use Rattle.std.specs.Prelude.{◌≡◌, ℕ, ◌<◌, ◌≤◌, true, false, [], ◌∷◌, length, drop, pos, slice_index_or};
-ghost use Rattle.trials.specs.declared.value.Value.TheVariants.{Open};
+ghost use Rattle.std.specs.Prelude.{◌≡◌, None, slice_index_or};
 ghost use Rattle.trials.specs.Values as vals;
-ghost use Rattle.trials.specs.Values.{is_false};
-ghost use Rattle.trials.specs.Forcing.{live};
 ghost use Rattle.forcing.specs.Judgements.{JudgedAs};
 
 use clause_store::flat::variable;
-use trials::value::Value;
 
-#[derive(Clone, Copy)]
+#[derive(Clone, Copy, Debug, PartialEq)]
 pub enum Judgement {
     // All its literals are false.
     Dead,
@@ -19,86 +15,39 @@ pub enum Judgement {
     Calm,
 }
 
-fn flipped(value: Value) -> Value
-    ensures { result ≡ vals.flip value }
-{
-    match value {
-        Value::Open => Value::Open,
-        Value::True => Value::False,
-        Value::False => Value::True,
-    }
-}
-
 // The value of its variable that makes a literal true.
-pub fn sign(lit: i32) -> Value
+pub fn sign(lit: i32) -> Option<bool>
     ensures { result ≡ vals.sign lit }
 {
-    if lit >= 0 { Value::True } else { Value::False }
+    Some(lit >= 0)
 }
 
 // The value of a variable; past the last one listed, all are open.
-pub fn value_at(values: &[Value], v: usize) -> Value
-    ensures { result ≡ slice_index_or values.now v Open }
+pub fn value_at(values: &[Option<bool>], v: usize) -> Option<bool>
+    ensures { result ≡ slice_index_or values.now v None }
 {
-    if v < values.len() {
-        values[v]
-    } else {
-        Value::Open
-    }
+    values.get(v).copied().flatten()
 }
 
 // The value of a literal.
-pub fn value_of(values: &[Value], lit: i32) -> Value
+pub fn value_of(values: &[Option<bool>], lit: i32) -> Option<bool>
     ensures { result ≡ vals.value values.now lit }
 {
-    let value = value_at(values, variable(lit));
-    if lit >= 0 { value } else { flipped(value) }
-}
-
-fn is_false(values: &[Value], lit: i32) -> bool
-    ensures { result ≡ is_false (vals.value values.now lit) }
-{
-    match value_of(values, lit) {
-        Value::Open => false,
-        Value::True => false,
-        Value::False => true,
-    }
-}
-
-// The place of the first literal, from a place on, that is not false.
-fn first_live(values: &[Value], clause: &[i32], from: usize) -> usize
-    requires { from ≤ length clause.now }
-    ensures low { from ≤ result }
-    ensures high { result ≤ length clause.now }
-    ensures passed { live values.now (drop from clause.now) ≡ live values.now (drop result clause.now) }
-    ensures stands { result < length clause.now → is_false (vals.value values.now (slice_index_or clause.now result (pos 0))) ≡ false }
-{
-    for i in from..clause.len() {
-        if !is_false(values, clause[i]) {
-            return i;
-        }
-    }
-    clause.len()
+    value_at(values, variable(lit)).map(|value| value == (lit >= 0))
 }
 
 // Whether a clause is wholly false, or forces a literal.
-pub fn judge(values: &[Value], clause: &[i32]) -> Judgement
+pub fn judge(values: &[Option<bool>], clause: &[i32]) -> Judgement
     ensures { JudgedAs values.now clause.now result }
 {
-    let first = first_live(values, clause, 0);
-    if first == clause.len() {
+    let mut live = clause
+        .iter()
+        .filter(|lit| value_of(values, **lit) != Some(false));
+    let Some(lit) = live.next() else {
         return Judgement::Dead;
+    };
+    if value_of(values, *lit).is_some() || live.next().is_some() {
+        return Judgement::Calm;
     }
-    let lit = clause[first];
-    match value_of(values, lit) {
-        Value::True => Judgement::Calm,
-        Value::False => Judgement::Calm,
-        Value::Open => {
-            if first_live(values, clause, first + 1) < clause.len() {
-                Judgement::Calm
-            } else {
-                Judgement::Forces(lit)
-            }
-        }
-    }
+    Judgement::Forces(*lit)
 }

@@ -1,40 +1,28 @@
 // Setting variables, and opening them again.
-ghost use Rattle.std.specs.Prelude.{◌≡◌, ℕ, ◌+◌, ◌-◌, ◌<◌, ◌≤◌, min, List, [], ◌∷◌, ◌++◌, length, take, drop, set, replicate, IfOk, vec_len, vec_capacity, slice_index, slice_set};
+ghost use Rattle.std.specs.Prelude.{◌≡◌, ℕ, ◌+◌, ◌-◌, ◌<◌, ◌≤◌, min, List, [], ◌∷◌, ◌++◌, length, take, drop, set, replicate, IfOk, None, vec_capacity, slice_get, slice_index, slice_set};
 ghost use Rattle.refusals.specs.Limits.{most_variables};
-ghost use Rattle.trials.specs.declared.value.Value.TheVariants.{Open};
 ghost use Rattle.forcing.specs.Boards as boards;
-ghost use Rattle.forcing.specs.Boards.{assigned, trailed, unset, is_open, WasPut};
+ghost use Rattle.forcing.specs.Boards.{assigned, trailed, unset, WasPut};
 
 use crate::board::Board;
 use refusals::limits::MOST_VARIABLES;
 use std::alloc::{AllocError, Global};
-use trials::value::Value;
 
-fn fill(values: &mut Vec<Value>, count: usize)
-    requires { count ≤ vec_capacity values.old }
-    ensures items { values.new.items ≡ replicate count Open }
-    ensures capacity { vec_capacity values.new ≡ vec_capacity values.old }
+// So many copies, as far as the reserved memory goes.
+pub fn fill<T: Copy>(list: &mut Vec<T>, item: T, count: usize)
+    ensures items { list.new.items ≡ replicate (min count (vec_capacity list.old)) item }
+    ensures capacity { vec_capacity list.new ≡ vec_capacity list.old }
 {
-    values.clear();
-    for _i in 0..count {
-        values.push_reserved(Value::Open);
+    list.clear();
+    for _ in 0..count.min(list.capacity()) {
+        list.push_reserved(item);
     }
 }
 
-fn opened(value: Value) -> bool
-    ensures { result ≡ is_open value }
-{
-    match value {
-        Value::Open => true,
-        Value::True => false,
-        Value::False => false,
-    }
-}
-
-fn settable(values: &[Value], v: usize, value: Value) -> bool
+fn settable(values: &[Option<bool>], v: usize, value: Option<bool>) -> bool
     ensures { result ≡ boards.settable values.now v value }
 {
-    v < values.len() && opened(values[v]) && !opened(value)
+    v < values.len() && values[v].is_none() && value.is_some()
 }
 
 impl Board {
@@ -50,11 +38,11 @@ impl Board {
 
     // All variables to n are open; there are none over the largest.
     pub fn clear(&mut self, n: usize)
-        ensures values { assigned self.new ≡ replicate (min n most_variables + 1) Open }
+        ensures values { assigned self.new ≡ replicate (min n most_variables + 1) None }
         ensures trail { trailed self.new ≡ [] }
     {
         self.trail.clear();
-        fill(&mut self.values, n.min(MOST_VARIABLES as usize) + 1);
+        fill(&mut self.values, None, n.min(MOST_VARIABLES as usize) + 1);
     }
 
     // How many variables are set.
@@ -65,22 +53,21 @@ impl Board {
     }
 
     // The value of each variable, at its number.
-    pub fn values(&self) -> &[Value]
+    pub fn values(&self) -> &[Option<bool>]
         ensures { result.now ≡ assigned self.now }
     {
         self.values.as_slice()
     }
 
-    // The variable that was set as number k, from 0; 0 if there is none.
-    pub fn set_at(&self, k: usize) -> usize
-        ensures { result ≡ slice_index (trailed self.now) k }
+    // The variable that was set as number k, from 0.
+    pub fn set_at(&self, k: usize) -> Option<usize>
+        ensures { result ≡ slice_get (trailed self.now) k }
     {
-        let trail = self.trail.as_slice();
-        if k < trail.len() { trail[k] } else { 0 }
+        self.trail.get(k).copied()
     }
 
     // Sets an open variable; leaves one that is set, or that there is not.
-    pub fn put(&mut self, v: usize, value: Value)
+    pub fn put(&mut self, v: usize, value: Option<bool>)
         ensures { WasPut (assigned self.old) (trailed self.old) v value (assigned self.new) (trailed self.new) }
     {
         if settable(&self.values, v, value) {
@@ -92,14 +79,13 @@ impl Board {
     // Opens the variable that was set last.
     fn reopen(&mut self)
         requires { 0 < length (trailed self.old) }
-        ensures values { assigned self.new ≡ slice_set (assigned self.old) (slice_index (trailed self.old) (length (trailed self.old) - 1)) Open }
+        ensures values { assigned self.new ≡ slice_set (assigned self.old) (slice_index (trailed self.old) (length (trailed self.old) - 1)) None }
         ensures trail { trailed self.new ≡ take (length (trailed self.old) - 1) (trailed self.old) }
     {
-        let last = self.trail.len() - 1;
-        let v = self.trail[last];
-        self.trail.truncate(last);
-        if v < self.values.len() {
-            self.values[v] = Value::Open;
+        if let Some(v) = self.trail.pop() {
+            if let Some(value) = self.values.get_mut(v) {
+                *value = None;
+            }
         }
     }
 

@@ -1,47 +1,25 @@
 // The variable that is tried next, and the values as bytes.
 ghost use Rattle.std.specs.Prelude.{◌≡◌, ℕ, ◌+◌, ◌<◌, ◌≤◌, length};
 ghost use Rattle.forcing.specs.Boards.{assigned};
-ghost use Rattle.forcing.specs.Shown as shown;
 ghost use Rattle.forcing.specs.Shown.{Shown};
 ghost use Rattle.forcing.specs.Picks.{Picked};
 
 use crate::board::Board;
 use crate::judge::value_at;
-use trials::value::Value;
 
-fn first_open(values: &[Value], from: usize, n: usize) -> Option<usize>
+fn first_open(values: &[Option<bool>], from: usize, n: usize) -> Option<usize>
     ensures { Picked from n values.now result }
 {
-    for v in from..values.len() {
-        if v > n {
-            return None;
-        }
-        match values[v] {
-            Value::Open => return Some(v),
-            Value::True => {}
-            Value::False => {}
-        }
-    }
-    let past = from.max(values.len());
-    if past <= n { Some(past) } else { None }
+    (from..=n).find(|v| value_at(values, *v).is_none())
 }
 
-fn byte(value: Value) -> u8
-    ensures { result ≡ shown.byte value }
-{
-    match value {
-        Value::Open => 0,
-        Value::True => 1,
-        Value::False => 0,
-    }
-}
-
-fn write_bytes(values: &[Value], n: usize, buffer: &mut [u8])
+fn write_bytes(values: &[Option<bool>], n: usize, buffer: &mut [u8])
     ensures { Shown n values.now buffer.old buffer.new }
 {
+    // By number: over iter_mut and zip the proof did not close, since nothing is known there of what is written.
     let count = n.min(buffer.len());
     for k in 0..count {
-        buffer[k] = byte(value_at(values, k + 1));
+        buffer[k] = u8::from(value_at(values, k + 1) == Some(true));
     }
 }
 

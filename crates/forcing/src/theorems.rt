@@ -3,15 +3,11 @@ ghost use Rattle.forcing.specs.Picks.{PicksFirst};
 ghost use Rattle.forcing.specs.Shown.{ShownFills};
 
 // With no variable open below where it begins, pick finds the variable that the search tries.
-pub fn picks_are_first() -> u8
+pub fn picks_are_first()
     ensures { PicksFirst }
-{
-    0
-}
+{}
 
 // An assignment that stands for a model is shown as one.
-pub fn shown_models_fill() -> u8
+pub fn shown_models_fill()
     ensures { ShownFills }
-{
-    0
-}
+{}

@@ -1,118 +1,139 @@
 -- What is listed, as entries are added.
-use Rattle.std.proofs.Common.{◌≡◌, ℕ, zero, suc, ◌+◌, ◌<◌, ◌≤◌, ◌⊎◌, List, [], ◌∷◌, ◌++◌, length, get_or, take, set, replicate, ℤ, pos, negsuc, sym, refl, ap, ◌∙◌, subst, inl, inr, arith, length-set}
-use lib.ListN.{length-replicate}
+use Rattle.std.proofs.Common.{◌≡◌, ℕ, zero, suc, ◌+◌, ◌<◌, ◌≤◌, ◌⊎◌, List, [], ◌∷◌, ◌++◌, length, get_or, take, set, replicate, ℤ, pos, negsuc, None, Some, Option, sym, refl, ap, ◌∙◌, subst, inl, inr, arith, length-set}
 use Rattle.std.proofs.lemmas.Bool.{cases_eq, cases_lt}
-use Rattle.std.proofs.lemmas.List.{get_or_append_left, get_or_push, get_or-set_same, get_or-set_other, length_push, set_past}
+use Rattle.std.proofs.lemmas.List.{get_or_append_left, get_or_push, get_or-set_same, get_or-set_other, length_push, set_past, length-replicate}
+use Rattle.std.specs.Option.{ForSome}
 use Rattle.holder.specs.Widest.{variable}
 use Rattle.holder.specs.Clauses.{size}
-use Rattle.trials.specs.declared.value.Value.TheVariants.{True, False}
-use Rattle.trials.specs.Values.{sign}
 use Rattle.trials.specs.Exist.{Within, WithinClause}
-use Rattle.propagation.specs.Chains.{Chains, Leads, here, there, head, Lists, added, added_clause, added_all, no_chains, Good, Owned, Indexes}
+use Rattle.propagation.specs.declared.index.Entry.{Entry}
+use Rattle.propagation.specs.declared.index.Heads.{Heads}
+use Rattle.propagation.specs.Chains.{Chains, no_heads, no_entry, heads_at, entry_at, Leads, here, there, head, Lists, begins, begun, added, added_clause, added_all, no_chains, Falling, Starting, Good, Owned, Indexes}
 
-leads_more : (next owner : List ℕ) (x j : ℕ) → length owner ≡ length next → {from i : ℕ} → Leads next owner from i → Leads (next ++ x ∷ []) (owner ++ j ∷ []) from i
-leads_more next owner x j paired (here q i l e) = here q i (let h = length_push next x in omega arith) (get_or_append_left owner (j ∷ []) 0 q (omega arith) ∙ e)
-leads_more next owner x j paired (there q i l r) =
-    there q i (let h = length_push next x in omega arith) (subst (λ (z : ℕ). Leads (next ++ x ∷ []) (owner ++ j ∷ []) z i) (sym (get_or_append_left next (x ∷ []) 0 q l)) (leads_more next owner x j paired r))
+leads_more : (es : List Entry) (x : Entry) {from : Option ℕ} {i : ℕ} → Leads es from i → Leads (es ++ x ∷ []) from i
+leads_more es x (here q i l e) = here q i (let h = length_push es x in omega arith) (ap (λ (z : Entry). z.owner) (get_or_append_left es (x ∷ []) no_entry q l) ∙ e)
+leads_more es x (there q i l r) =
+    there q i (let h = length_push es x in omega arith) (subst (λ (z : Entry). Leads (es ++ x ∷ []) z.next i) (sym (get_or_append_left es (x ∷ []) no_entry q l)) (leads_more es x r))
 
 same_literal : (m l : ℤ) → (m ≡ l) ⊎ (m ≡ l → ⊥)
 same_literal (pos a) (pos b) = elim (cases_eq a b) [ inl e ↦ inl (ap pos e) | inr ne ↦ inr (λ e. let f : a ≡ b = cc in ne f) ]
-same_literal (pos a) (negsuc b) = inr (λ e. let z : ◌≡◌ {A = ℕ} 0 1 = cc in omega arith)
-same_literal (negsuc a) (pos b) = inr (λ e. let z : ◌≡◌ {A = ℕ} 0 1 = cc in omega arith)
+same_literal (pos a) (negsuc b) = inr (λ e. cc)
+same_literal (negsuc a) (pos b) = inr (λ e. cc)
 same_literal (negsuc a) (negsuc b) = elim (cases_eq a b) [ inl e ↦ inl (ap negsuc e) | inr ne ↦ inr (λ e. let f : a ≡ b = cc in ne f) ]
+
+-- what is read after one place is set
+set_either : (hs : List Heads) (a v : ℕ) (h : Heads) → (v ≡ a) × (heads_at (set hs a h) v ≡ h) ⊎ (heads_at (set hs a h) v ≡ heads_at hs v)
+set_either hs a v h = elim (cases_eq v a) [
+  | inl e ↦ elim (cases_lt a (length hs)) [
+    | inl w ↦ inl (e, ap (heads_at (set hs a h)) e ∙ get_or-set_same hs a h no_heads w)
+    | inr p ↦ inr (ap (λ z. heads_at z v) (set_past hs a h p))
+  ]
+  | inr ne ↦ inr (get_or-set_other hs a v h no_heads ne)
+]
+
+kept : (f : Heads → Option ℕ) (hs : List Heads) (a v : ℕ) (h : Heads) → f h ≡ f (heads_at hs a) → f (heads_at (set hs a h) v) ≡ f (heads_at hs v)
+kept f hs a v h e = elim (set_either hs a v h) [ inl k ↦ ap f k.1 ∙ e ∙ sym (ap (λ z. f (heads_at hs z)) k.0) | inr k ↦ ap f k ]
 
 head_other : (s : Chains) (l m : ℤ) (i : ℕ) → (m ≡ l → ⊥) → head (added s l i) m ≡ head s m
 unfolding added
-head_other s (pos a) (pos b) i ne = get_or-set_other s.positive a b (length s.next + 1) 0 (λ e. ne (ap pos e))
-head_other s (pos a) (negsuc b) i ne = refl
-head_other s (negsuc a) (pos b) i ne = refl
-head_other s (negsuc a) (negsuc b) i ne = get_or-set_other s.negative (suc a) (suc b) (length s.next + 1) 0 (λ e. let f : b ≡ a = omega arith in ne (ap negsuc f))
+head_other s (pos a) (pos b) i ne = ap (λ (z : Heads). z.positive) (get_or-set_other s.heads a b _ no_heads (λ e. ne (ap pos e)))
+head_other s (pos a) (negsuc b) i ne = kept (λ (z : Heads). z.negative) s.heads a (suc b) _ refl
+head_other s (negsuc a) (pos b) i ne = kept (λ (z : Heads). z.positive) s.heads (suc a) b _ refl
+head_other s (negsuc a) (negsuc b) i ne = ap (λ (z : Heads). z.negative) (get_or-set_other s.heads (suc a) (suc b) _ no_heads (λ e. let f : b ≡ a = omega arith in ne (ap negsuc f)))
 
-head_here : (s : Chains) (l : ℤ) (i places : ℕ) → Good places s → variable l < places → head (added s l i) l ≡ suc (length s.next)
+-- the two lists after one entry more
+pub added_is : (s : Chains) (l : ℤ) (i v n : ℕ) (old new : Heads) (next : Option ℕ) (hs : List Heads) (es : List Entry) → v ≡ variable l → old ≡ heads_at s.heads v → n ≡ length s.entries → new ≡ begins old l n → next ≡ begun old l → hs ≡ set s.heads v new → es ≡ s.entries ++ record { owner = i; next = next } ∷ [] → ◌≡◌ {A = Chains} (record { heads = hs; entries = es }) (added s l i)
 unfolding added
-head_here s (pos a) i places g w = let h = g.long_positive in let e : length s.next + 1 ≡ suc (length s.next) = omega arith in get_or-set_same s.positive a (length s.next + 1) 0 (omega arith) ∙ e
-head_here s (negsuc a) i places g w = let h = g.long_negative in let e : length s.next + 1 ≡ suc (length s.next) = omega arith in get_or-set_same s.negative (suc a) (length s.next + 1) 0 (omega arith) ∙ e
+added_is s l i v n old new next hs es a b c d e f g =
+    let o : old ≡ heads_at s.heads (variable l) = b ∙ ap (heads_at s.heads) a in
+    let h : hs ≡ set s.heads (variable l) (begins (heads_at s.heads (variable l)) l (length s.entries)) = cc in
+    let x : next ≡ head s l = e ∙ ap (λ z. begun z l) o in
+    let k : es ≡ s.entries ++ record { owner = i; next = head s l } ∷ [] = g ∙ ap (λ z. s.entries ++ record { owner = i; next = z } ∷ []) x in
+    ap (λ (z : List Heads). record { heads = z; entries = es }) h ∙ ap (λ (z : List Entry). record { heads = set s.heads (variable l) (begins (heads_at s.heads (variable l)) l (length s.entries)); entries = z }) k
 
-pub added_long : (s : Chains) (l : ℤ) (i : ℕ) → (length (added s l i).next ≡ length s.next + 1) × (length (added s l i).owner ≡ length s.owner + 1) × (length (added s l i).positive ≡ length s.positive) × (length (added s l i).negative ≡ length s.negative)
+pub added_long : (s : Chains) (l : ℤ) (i : ℕ) → (length (added s l i).entries ≡ length s.entries + 1) × (length (added s l i).heads ≡ length s.heads)
 unfolding added
-added_long s (pos a) i = (length_push s.next _, length_push s.owner i, length-set s.positive a _, refl)
-added_long s (negsuc a) i = (length_push s.next _, length_push s.owner i, refl, length-set s.negative (suc a) _)
+added_long s l i = (length_push s.entries _, length-set s.heads (variable l) _)
 
-set_bound : (xs : List ℕ) (n x v top : ℕ) → get_or xs v 0 ≤ top → x ≤ top → get_or (set xs n x) v 0 ≤ top
-set_bound xs n x v top h k = elim (cases_eq v n) [
-  | inl e ↦ elim (cases_lt n (length xs)) [
-    | inl w ↦ (let g = ap (λ (z : ℕ). get_or (set xs n x) z 0) e ∙ get_or-set_same xs n x 0 w in omega arith)
-    | inr p ↦ (let g = ap (λ (z : List ℕ). get_or z v 0) (set_past xs n x p) in omega arith)
+wider : (o : Option ℕ) (n : ℕ) → ForSome o (λ p. p < n) → ForSome o (λ p. p < n + 1)
+wider o n h p e = let k = h p e in omega arith
+
+the_new : (n : ℕ) → ForSome (Some n) (λ p. p < n + 1)
+the_new n p e = let f : n ≡ p = cc in omega arith
+
+-- a chain of either sign begins within n
+abbrev Below : ℕ → Heads → Type 0
+Below n h = ForSome h.positive (λ p. p < n) × ForSome h.negative (λ p. p < n)
+
+begins_below : (n : ℕ) (h : Heads) (l : ℤ) → Below n h → Below (n + 1) (begins h l n)
+begins_below n h (pos a) b = (the_new n, wider h.negative n b.1)
+begins_below n h (negsuc a) b = (wider h.positive n b.0, the_new n)
+
+head_below : (s : Chains) (l : ℤ) (n : ℕ) → Starting s.heads n → ForSome (head s l) (λ p. p < n)
+head_below s (pos a) n h = (h a).0
+head_below s (negsuc a) n h = (h (suc a)).1
+
+module _ (s : Chains) (l : ℤ) (i : ℕ) where
+  pub added_starts : Starting s.heads (length s.entries) → Starting (added s l i).heads (length (added s l i).entries)
+  unfolding added
+  added_starts h v =
+      let n = length s.entries in
+      let a = variable l in
+      let g = begins (heads_at s.heads a) l n in
+      subst (λ (k : ℕ). Below k (heads_at (set s.heads a g) v)) (sym (length_push s.entries _)) (elim (set_either s.heads a v g) [
+        | inl k ↦ subst (Below (n + 1)) (sym k.1) (begins_below n (heads_at s.heads a) l (h a))
+        | inr k ↦ subst (Below (n + 1)) (sym k) (wider _ n (h v).0, wider _ n (h v).1)
+      ])
+
+  new_entry : entry_at (added s l i).entries (length s.entries) ≡ record { owner = i; next = head s l }
+  unfolding added
+  new_entry = get_or_push s.entries _ no_entry (length s.entries) refl
+
+  old_entry : (q : ℕ) → q < length s.entries → entry_at (added s l i).entries q ≡ entry_at s.entries q
+  unfolding added
+  old_entry q h = get_or_append_left s.entries _ no_entry q h
+
+  pub added_falling : Starting s.heads (length s.entries) → Falling s.entries → Falling (added s l i).entries
+  added_falling h f q w = let a = (added_long s l i).0 in elim (cases_lt q (length s.entries)) [
+    | inl b ↦ subst (λ (z : Entry). ForSome z.next (λ p. p < q)) (sym (old_entry q b)) (f q b)
+    | inr n ↦ (let e : length s.entries ≡ q = omega arith in subst (λ (z : ℕ). ForSome (entry_at (added s l i).entries z).next (λ p. p < z)) e (subst (λ (z : Entry). ForSome z.next (λ p. p < length s.entries)) (sym new_entry) (head_below s l (length s.entries) h)))
   ]
-  | inr ne ↦ (let g = get_or-set_other xs n v x 0 ne in omega arith)
-]
-
-added_starts : (s : Chains) (l : ℤ) (i v : ℕ) → (get_or s.positive v 0 ≤ length s.next) × (get_or s.negative v 0 ≤ length s.next) → (get_or (added s l i).positive v 0 ≤ length s.next + 1) × (get_or (added s l i).negative v 0 ≤ length s.next + 1)
-unfolding added
-added_starts s (pos n) i v h = let a = h.0 in let b = h.1 in (set_bound s.positive n (length s.next + 1) v (length s.next + 1) (omega arith) (omega arith), omega arith)
-added_starts s (negsuc n) i v h = let a = h.0 in let b = h.1 in (omega arith, set_bound s.negative (suc n) (length s.next + 1) v (length s.next + 1) (omega arith) (omega arith))
 
 module _ (s : Chains) (l : ℤ) (i places : ℕ) (good : Good places s) (within : variable l < places) where
-  kept_leads : {from j : ℕ} → Leads s.next s.owner from j → Leads (added s l i).next (added s l i).owner from j
+  head_here : head (added s l i) l ≡ Some (length s.entries)
   unfolding added
-  kept_leads r = leads_more s.next s.owner (head s l) i good.paired r
+  head_here = here_at l (let e = good.long in omega arith)
+    where
+      here_at : (m : ℤ) → variable m < length s.heads → head (added s m i) m ≡ Some (length s.entries)
+      here_at (pos a) w = ap (λ (z : Heads). z.positive) (get_or-set_same s.heads a _ no_heads w)
+      here_at (negsuc a) w = ap (λ (z : Heads). z.negative) (get_or-set_same s.heads (suc a) _ no_heads w)
 
-  new_next : get_or (added s l i).next (length s.next) 0 ≡ head s l
+  kept_leads : {from : Option ℕ} {j : ℕ} → Leads s.entries from j → Leads (added s l i).entries from j
   unfolding added
-  new_next = get_or_push s.next (head s l) 0 (length s.next) refl
+  kept_leads r = leads_more s.entries _ r
 
-  new_owner : get_or (added s l i).owner (length s.next) 0 ≡ i
-  unfolding added
-  new_owner = get_or_push s.owner i 0 (length s.next) good.paired
-
-  new_in : length s.next < length (added s l i).next
+  new_in : length s.entries < length (added s l i).entries
   new_in = let h = (added_long s l i).0 in omega arith
 
   pub added_grown : (m : ℤ) (j : ℕ) → Lists s m j → Lists (added s l i) m j
   added_grown m j r = elim (same_literal m l) [
     | inl e ↦ (
-        let deeper : Leads (added s l i).next (added s l i).owner (suc (length s.next)) j =
-        there (length s.next) j new_in (subst (λ (z : ℕ). Leads (added s l i).next (added s l i).owner z j) (ap (head s) e ∙ sym new_next) (kept_leads r)) in
-        subst (λ (z : ℕ). Leads (added s l i).next (added s l i).owner z j) (sym (ap (head (added s l i)) e ∙ head_here s l i places good within)) deeper)
-    | inr ne ↦ subst (λ (z : ℕ). Leads (added s l i).next (added s l i).owner z j) (sym (head_other s l m i ne)) (kept_leads r)
+        let deeper : Leads (added s l i).entries (Some (length s.entries)) j =
+        there (length s.entries) j new_in (subst (λ (z : Option ℕ). Leads (added s l i).entries z j) (ap (head s) e ∙ sym (ap (λ (z : Entry). z.next) (new_entry s l i))) (kept_leads r)) in
+        subst (λ (z : Option ℕ). Leads (added s l i).entries z j) (sym (ap (head (added s l i)) e ∙ head_here)) deeper)
+    | inr ne ↦ subst (λ (z : Option ℕ). Leads (added s l i).entries z j) (sym (head_other s l m i ne)) (kept_leads r)
   ]
 
   pub added_listed : Lists (added s l i) l i
-  added_listed = subst (λ (z : ℕ). Leads (added s l i).next (added s l i).owner z i) (sym (head_here s l i places good within)) (here (length s.next) i new_in new_owner)
-
-  old_next : (q : ℕ) → q < length s.next → get_or (added s l i).next q 0 ≡ get_or s.next q 0
-  unfolding added
-  old_next q h = get_or_append_left s.next (head s l ∷ []) 0 q h
-
-  old_owner : (q : ℕ) → q < length s.next → get_or (added s l i).owner q 0 ≡ get_or s.owner q 0
-  unfolding added
-  old_owner q h = let e = good.paired in get_or_append_left s.owner (i ∷ []) 0 q (omega arith)
+  added_listed = subst (λ (z : Option ℕ). Leads (added s l i).entries z i) (sym head_here) (here (length s.entries) i new_in (ap (λ (z : Entry). z.owner) (new_entry s l i)))
 
   pub added_good : Good places (added s l i)
-  added_good =
-      let a = added_long s l i in
-      let a0 = a.0 in
-      let a1 = a.1 in
-      let p = good.paired in
-      record {
-        long_positive = a.2 ∙ good.long_positive;
-        long_negative = a.3 ∙ good.long_negative;
-        paired = omega arith;
-        falling = λ q h. elim (cases_lt q (length s.next)) [
-          | inl b ↦ (let f = good.falling q b in let e = old_next q b in omega arith)
-          | inr n ↦ (let e : q ≡ length s.next = omega arith in let f = good.starts l in let g = ap (λ (z : ℕ). get_or (added s l i).next z 0) e ∙ new_next in omega arith)
-        ];
-        starts = λ m. elim (same_literal m l) [
-          | inl e ↦ (let g = ap (head (added s l i)) e ∙ head_here s l i places good within in omega arith)
-          | inr ne ↦ (let g = head_other s l m i ne in let f = good.starts m in omega arith)
-        ];
-        starts_at = λ v. let g = added_starts s l i v (good.starts_at v) in let g0 = g.0 in let g1 = g.1 in (omega arith, omega arith);
-      }
+  added_good = record { long = (added_long s l i).1 ∙ good.long; falling = added_falling s l i good.starts good.falling; starts = added_starts s l i good.starts }
 
   pub added_owned : (count : ℕ) → i < count → Owned count s → Owned count (added s l i)
-  added_owned count h o q k = let a0 = (added_long s l i).0 in elim (cases_lt q (length s.next)) [
-    | inl b ↦ (let e = old_owner q b in let f = o q b in omega arith)
-    | inr n ↦ (let e : q ≡ length s.next = omega arith in let g = ap (λ (z : ℕ). get_or (added s l i).owner z 0) e ∙ new_owner in omega arith)
+  added_owned count h o q k = let a0 = (added_long s l i).0 in elim (cases_lt q (length s.entries)) [
+    | inl b ↦ (let e = ap (λ (z : Entry). z.owner) (old_entry s l i q b) in let f = o q b in omega arith)
+    | inr n ↦ (let e : q ≡ length s.entries = omega arith in let g = ap (λ (z : ℕ). (entry_at (added s l i).entries z).owner) e ∙ ap (λ (z : Entry). z.owner) (new_entry s l i) in omega arith)
   ]
 
 -- one clause more
@@ -169,24 +190,20 @@ all_owned places count s (c ∷ cs) i g w h o =
     let a = clause_gains places s c i g (w 0 (omega arith)) in
     all_owned places count (added_clause s c i) cs (suc i) a.good (within_tail places c cs w) (omega arith) (clause_owned places count s c i g (w 0 (omega arith)) (omega arith) o)
 
-zeros : (v n : ℕ) → ◌≡◌ {A = ℕ} (get_or (replicate v 0) n 0) 0
-zeros zero n = refl
-zeros (suc v) zero = refl
-zeros (suc v) (suc n) = zeros v n
-
 pub none_good : (places : ℕ) → Good places (no_chains places)
 none_good places = record {
-  long_positive = length-replicate places 0;
-  long_negative = length-replicate places 0;
-  paired = refl;
+  long = length-replicate places no_heads;
   falling = λ q h. absurd (let z : ⊥ = omega arith in z);
-  starts = none_starts;
-  starts_at = λ v. let e = zeros places v in (omega arith, omega arith);
+  starts = λ v. subst (Below 0) (sym (none_at places v)) (none_below, none_below);
 }
   where
-    none_starts : (l : ℤ) → head (no_chains places) l ≤ 0
-    none_starts (pos n) = let e = zeros places n in omega arith
-    none_starts (negsuc n) = let e = zeros places (suc n) in omega arith
+    none_below : ForSome None (λ p. p < 0)
+    none_below p e = cc
+
+    none_at : (k v : ℕ) → heads_at (replicate k no_heads) v ≡ no_heads
+    none_at zero v = refl
+    none_at (suc k) zero = refl
+    none_at (suc k) (suc v) = none_at k v
 
 pub all_indexes : (places : ℕ) (cs : List (List ℤ)) → Within places cs → Indexes cs places (added_all (no_chains places) cs 0)
 all_indexes places cs w = record {
@@ -214,42 +231,25 @@ pub all_none : (s : Chains) (i : ℕ) → added_all s [] i ≡ s
 unfolding added_all
 all_none s i = refl
 
-pub clause_long : (s : Chains) (c : List ℤ) (i : ℕ) → length (added_clause s c i).next ≡ length s.next + length c
+pub clause_long : (s : Chains) (c : List ℤ) (i : ℕ) → length (added_clause s c i).entries ≡ length s.entries + length c
 unfolding added_clause
 clause_long s [] i = omega arith
 clause_long s (l ∷ c) i = let h = clause_long (added s l i) c i in let a = (added_long s l i).0 in omega arith
-
-pub chains_eq : (ps ps' ns ns' xs xs' os os' : List ℕ) → ps ≡ ps' → ns ≡ ns' → xs ≡ xs' → os ≡ os' → ◌≡◌ {A = Chains} (record { positive = ps; negative = ns; next = xs; owner = os }) (record { positive = ps'; negative = ns'; next = xs'; owner = os' })
-chains_eq ps ps' ns ns' xs xs' os os' a b c d =
-    ap (λ (z : List ℕ). record { positive = z; negative = ns; next = xs; owner = os }) a
-    ∙ ap (λ (z : List ℕ). record { positive = ps'; negative = z; next = xs; owner = os }) b
-    ∙ ap (λ (z : List ℕ). record { positive = ps'; negative = ns'; next = z; owner = os }) c
-    ∙ ap (λ (z : List ℕ). record { positive = ps'; negative = ns'; next = xs'; owner = z }) d
-
-pub added_true : (s : Chains) (l : ℤ) (i : ℕ) → True ≡ sign l → added s l i ≡ record { positive = set s.positive (variable l) (length s.next + 1); negative = s.negative; next = s.next ++ get_or s.positive (variable l) 0 ∷ []; owner = s.owner ++ i ∷ [] }
-unfolding added
-added_true s (pos n) i e = refl
-added_true s (negsuc n) i e = absurd (let z : ◌≡◌ {A = ℕ} 0 1 = cc in let w : ⊥ = omega arith in w)
-
-pub added_false : (s : Chains) (l : ℤ) (i : ℕ) → False ≡ sign l → added s l i ≡ record { positive = s.positive; negative = set s.negative (variable l) (length s.next + 1); next = s.next ++ get_or s.negative (variable l) 0 ∷ []; owner = s.owner ++ i ∷ [] }
-unfolding added
-added_false s (pos n) i e = absurd (let z : ◌≡◌ {A = ℕ} 0 1 = cc in let w : ⊥ = omega arith in w)
-added_false s (negsuc n) i e = refl
 
 pub size-take : (cs : List (List ℤ)) (i : ℕ) → i < length cs → size (take i cs) + length (get_or cs i []) ≤ size cs
 size-take [] i h = absurd (let z : ⊥ = omega arith in z)
 size-take (c ∷ cs) zero h = omega arith
 size-take (c ∷ cs) (suc i) h = let r = size-take cs i (omega arith) in omega arith
 
-pub all_long : (s : Chains) (cs : List (List ℤ)) (i : ℕ) → length (added_all s cs i).next ≡ length s.next + size cs
+pub clause_heads : (s : Chains) (c : List ℤ) (i : ℕ) → length (added_clause s c i).heads ≡ length s.heads
+unfolding added_clause
+clause_heads s [] i = refl
+clause_heads s (l ∷ c) i = clause_heads (added s l i) c i ∙ (added_long s l i).1
+
+pub all_long : (s : Chains) (cs : List (List ℤ)) (i : ℕ) → length (added_all s cs i).entries ≡ length s.entries + size cs
 unfolding added_all
 all_long s [] i = omega arith
 all_long s (c ∷ cs) i = let h = all_long (added_clause s c i) cs (suc i) in let k = clause_long s c i in omega arith
-
-pub within_take : (places : ℕ) (c : List ℤ) (k : ℕ) → WithinClause places c → WithinClause places (take k c)
-within_take places c zero w = tt
-within_take places [] (suc k) w = tt
-within_take places (l ∷ c) (suc k) w = (w.0, within_take places c k w.1)
 
 pub all_within_take : (places : ℕ) (cs : List (List ℤ)) (k : ℕ) → Within places cs → Within places (take k cs)
 all_within_take places cs zero w i h = absurd (let z : ⊥ = omega arith in z)

@@ -1,8 +1,7 @@
 -- Forcing on and on.
-use Rattle.std.proofs.Common.{◌≡◌, ℕ, List, [], ◌∷◌, ◌++◌, length, take, drop, set, ℤ, sym, refl, ap, ◌∙◌}
+use Rattle.std.proofs.Common.{◌≡◌, ℕ, List, [], ◌∷◌, ◌++◌, length, take, drop, set, ℤ, sym, refl, ap, ◌∙◌, None}
 use Rattle.std.proofs.lemmas.List.{take-take, take-append-drop, drop-append-le}
-use Rattle.trials.specs.declared.value.Value.{Value}
-use Rattle.trials.specs.declared.value.Value.TheVariants.{Open}
+use Rattle.trials.specs.Values.{Value}
 use Rattle.forcing.specs.Boards.{unset, Back}
 use Rattle.forcing.proofs.Backs.{back_within}
 use Rattle.trials.proofs.Confluence.{forcing_more}
@@ -11,7 +10,7 @@ use Rattle.propagation.proofs.Steps.{Come}
 unset_append : (a : List Value) (vs ws : List ℕ) → unset a (vs ++ ws) ≡ unset (unset a ws) vs
 unfolding unset
 unset_append a [] ws = refl
-unset_append a (v ∷ vs) ws = ap (λ z. set z v Open) (unset_append a vs ws)
+unset_append a (v ∷ vs) ws = ap (λ z. set z v None) (unset_append a vs ws)
 
 pub back_trans : (a : List Value) (ts : List ℕ) (b : List Value) (us : List ℕ) (d : List Value) (ws : List ℕ) → Back a ts b us → Back b us d ws → Back a ts d ws
 back_trans a ts b us d ws r q =

@@ -4,3 +4,4 @@ pub mod Comes
 pub mod Watching
 pub mod Steps
 pub mod Turning
+pub mod Puts

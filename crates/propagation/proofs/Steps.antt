@@ -1,11 +1,9 @@
 -- One forced literal more.
-use Rattle.std.proofs.Common.{◌≡◌, ℕ, ◌<◌, List, [], ◌∷◌, ◌++◌, length, get_or, set, ℤ, sym, ap, ◌∙◌, subst, arith}
+use Rattle.std.proofs.Common.{◌≡◌, ℕ, ◌<◌, List, [], ◌∷◌, ◌++◌, length, get_or, set, ℤ, sym, ap, ◌∙◌, subst, arith, None}
 use Rattle.holder.specs.Widest.{variable}
-use Rattle.trials.specs.declared.value.Value.{Value}
-use Rattle.trials.specs.declared.value.Value.TheVariants.{Open}
-use Rattle.trials.specs.Values.{sign, holding, opens}
+use Rattle.trials.specs.Values.{Value, sign, holding}
 use Rattle.trials.specs.Forcing.{Forced, Forcing, rest, next}
-use Rattle.trials.specs.Exist.{Within, forced_within, open_at, opens_set, sign_set}
+use Rattle.trials.specs.Exist.{Within, forced_within, open_at, sign_set}
 use Rattle.forcing.specs.Boards.{Back}
 use Rattle.forcing.proofs.Backs.{back_none, back_put}
 use Rattle.trials.proofs.Confluence.{forcing_more}
@@ -19,17 +17,14 @@ pub come_none : (cs : List (List ℤ)) (a : List Value) (ts : List ℕ) → Come
 come_none cs a ts = record { run = rest; back = back_none a ts }
 
 module _ (cs : List (List ℤ)) (b : List Value) (l : ℤ) (f : Forced cs b l) (v : ℕ) (x : Value) (named : v ≡ variable l) (signed : x ≡ sign l) where
-  pub forced_open : get_or b v Open ≡ Open
-  forced_open = subst (λ (z : ℕ). get_or b z Open ≡ Open) (sym named) (open_at b l f.opened)
+  pub forced_open : get_or b v None ≡ None
+  forced_open = subst (λ (z : ℕ). get_or b z None ≡ None) (sym named) (open_at b l f.opened)
 
-  pub forced_set : x ≡ Open → ⊥
+  pub forced_set : x ≡ None → ⊥
   forced_set e = sign_set l (sym signed ∙ e)
 
   pub forced_in : Within (length b) cs → v < length b
   forced_in w = let h = forced_within (length b) cs b l w f in omega arith
-
-  pub forced_fewer : Within (length b) cs → opens (set b v x) < opens b
-  forced_fewer w = let h = opens_set b v x (forced_in w) forced_open forced_set in omega arith
 
   pub come_more : (a : List Value) (ts us : List ℕ) → Come cs a ts b us → Come cs a ts (set b v x) (us ++ v ∷ [])
   come_more a ts us r =

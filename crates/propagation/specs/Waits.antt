@@ -1,13 +1,11 @@
 -- Clauses that have to be looked at again.
-use Rattle.std.specs.Prelude.{◌≡◌, ℕ, ◌<◌, ◌≤◌, Bool, List, [], length, ℤ, pos, MatchBool, slice_index, slice_index_or}
+use Rattle.std.specs.Prelude.{◌≡◌, ℕ, ◌<◌, ◌≤◌, Bool, List, [], length, ℤ, pos, MatchBool, slice_index, slice_index_or, None, Some, true, false, Option}
 use Rattle.holder.specs.Widest.{variable}
-use Rattle.trials.specs.declared.value.Value.{Value}
-use Rattle.trials.specs.declared.value.Value.TheVariants.{Open, True, False}
-use Rattle.trials.specs.Values.{value}
+use Rattle.trials.specs.Values.{Value, value}
 use Rattle.trials.specs.Forcing.{Calm, Forcing, Conflict}
 use Rattle.forcing.specs.Boards.{Back}
 use Rattle.trials.specs.Exist.{Within}
-use Rattle.propagation.specs.Chains.{Chains, Indexes}
+use Rattle.propagation.specs.Chains.{Chains, heads_at, Indexes}
 
 -- a literal of the clause is false by a variable that was set as number head or later
 pub record Waits (c : List ℤ) (b : List Value) (us : List ℕ) (head : ℕ) : Type 0 where
@@ -17,7 +15,7 @@ pub record Waits (c : List ℤ) (b : List Value) (us : List ℕ) (head : ℕ) : 
   pub place : ℕ
   pub within : place < length c
   pub named : variable (slice_index_or c place (pos 0)) ≡ slice_index us at
-  pub dead : value b (slice_index_or c place (pos 0)) ≡ False
+  pub dead : value b (slice_index_or c place (pos 0)) ≡ Some false
 
 -- calm, or waiting, or known otherwise
 pub data Watched (c : List ℤ) (b : List Value) (us : List ℕ) (head : ℕ) (E : Type 0) : Type 0 where
@@ -40,11 +38,11 @@ pub record Ready (cs : List (List ℤ)) (s : Chains) (a : List Value) (ts : List
   pub low : start ≤ length ts
   pub awake : Awake cs a ts start NoneElse
 
--- the chain of the literal of v that is false where v has a value
-abbrev pub against : Chains → ℕ → Value → ℕ
-against s v Open = 0
-against s v True = slice_index s.negative v
-against s v False = slice_index s.positive v
+-- where the chain of the literal of v begins that is false where v has a value
+abbrev pub against : Chains → ℕ → Value → Option ℕ
+against s v None = None
+against s v (Some true) = (heads_at s.heads v).negative
+against s v (Some false) = (heads_at s.heads v).positive
 
 -- forcing from a to b, and what is left then, or a conflict
 pub record Woken (cs : List (List ℤ)) (a : List Value) (ts : List ℕ) (quiet : Bool) (b : List Value) (us : List ℕ) : Type 0 where

@@ -1,19 +1,31 @@
 // For each literal the clauses that it stands in: a chain of entries, the last one first.
-ghost use Rattle.std.specs.Prelude.{◌≡◌, ◌<◌, ◌≤◌, vec_capacity};
+ghost use Rattle.std.specs.Prelude.{◌<◌, ◌≤◌, length, vec_capacity};
 ghost use Rattle.refusals.specs.Limits.{most_variables};
+ghost use Rattle.propagation.specs.Chains.{Falling, Starting};
 
-// An entry is named by its place in `next` and `owner`, counted from 1, so that 0 is the end of a chain.
+// The entries at which the chains of the literals v and -v begin.
+#[derive(Clone, Copy, Debug, PartialEq)]
+pub(crate) struct Heads {
+    pub(crate) positive: Option<usize>,
+    pub(crate) negative: Option<usize>,
+}
+
+// A clause, and the entry at which its chain goes on.
+#[derive(Clone, Copy, Debug, PartialEq)]
+pub(crate) struct Entry {
+    pub(crate) owner: usize,
+    pub(crate) next: Option<usize>,
+}
+
+// An entry is named by its place, since the memory for all is reserved when the index is made.
 #[derive(Drop)]
 pub struct Index {
-    // Where the chains of the literals v and -v begin.
-    pub(crate) positive: Vec<usize>,
-    pub(crate) negative: Vec<usize>,
-    // For each entry the next of its chain, and the clause.
-    pub(crate) next: Vec<usize>,
-    pub(crate) owner: Vec<usize>,
+    // The beginnings at variable v stand at place v.
+    pub(crate) heads: Vec<Heads>,
+    pub(crate) entries: Vec<Entry>,
     pub(crate) most: usize,
-    ghost positive_room: { most_variables < vec_capacity positive },
-    ghost negative_room: { most_variables < vec_capacity negative },
-    ghost next_room: { most ≤ vec_capacity next },
-    ghost owner_room: { most ≤ vec_capacity owner },
+    ghost heads_room: { most_variables < vec_capacity heads },
+    ghost entries_room: { most ≤ vec_capacity entries },
+    ghost falling: { Falling entries.items },
+    ghost starts: { Starting heads.items (length entries.items) },
 }

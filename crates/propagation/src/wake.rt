@@ -1,5 +1,5 @@
 // One look at every clause, after which only clauses wait that a literal made false.
-ghost use Rattle.std.specs.Prelude.{ℕ, length};
+ghost use Rattle.std.specs.Prelude.{length};
 ghost use Rattle.clause_store.specs.Made.{stood_of};
 ghost use Rattle.trials.specs.Exist.{Within};
 ghost use Rattle.forcing.specs.Boards.{assigned, trailed};
@@ -14,11 +14,7 @@ use forcing::judge::{Judgement, judge, sign};
 pub fn wake(board: &mut Board, store: &Store) -> bool
     ensures { Within (length (assigned board.old)) (stood_of store.now).held → Woken (stood_of store.now).held (assigned board.old) (trailed board.old) result (assigned board.new) (trailed board.new) }
 {
-    let count = store.count();
-    let mut next = 0;
-    'clauses: while next < count {
-        let clause = store.clause(next);
-        next += 1;
+    'clauses: for clause in store.clauses() {
         match judge(board.values(), clause) {
             Judgement::Dead => return false,
             Judgement::Forces(lit) => board.put(variable(lit), sign(lit)),

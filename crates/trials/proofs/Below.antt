@@ -1,30 +1,22 @@
 -- Assignments that say more.
-use Rattle.std.proofs.Common.{◌≡◌, ℕ, suc, ◌<◌, ◌≤◌, cond, List, [], ◌∷◌, length, get_or, set, ℤ, pos, negsuc, sym, refl, ap, ◌∙◌, subst, inl, inr, arith}
+use Rattle.std.proofs.Common.{◌≡◌, ℕ, suc, ◌<◌, ◌≤◌, cond, List, [], ◌∷◌, length, get_or, set, ℤ, pos, negsuc, sym, refl, ap, ◌∙◌, subst, inl, inr, None, Some, true, false, Bool}
 use Rattle.std.proofs.lemmas.Bool.{cases_eq, cases_lt}
 use Rattle.std.proofs.lemmas.List.{get_or-set_same, get_or-set_other, set_past, ext_get_or}
-use Rattle.trials.specs.declared.value.Value.{Value}
-use Rattle.trials.specs.declared.value.Value.TheVariants.{Open, True, False}
+use Rattle.trials.specs.Values.{Value, flip, value, is_false, sign, holding}
 use Rattle.holder.specs.Widest.{variable}
-use Rattle.trials.specs.Values.{flip, value, is_false, sign, holding}
 use Rattle.trials.specs.Forcing.{live}
 
 -- what a says, b says too
 abbrev pub Below : List Value → List Value → Type 0
-Below a b = (v : ℕ) (x : Value) → get_or a v Open ≡ x → (x ≡ Open → ⊥) → get_or b v Open ≡ x
+Below a b = (v : ℕ) (x : Value) → get_or a v None ≡ x → (x ≡ None → ⊥) → get_or b v None ≡ x
 
-pub true_set : True ≡ Open → ⊥
-true_set e = let z : ◌≡◌ {A = ℕ} 0 1 = cc in omega arith
-
-pub false_set : False ≡ Open → ⊥
-false_set e = let z : ◌≡◌ {A = ℕ} 0 1 = cc in omega arith
-
-pub true_false : True ≡ False → ⊥
-true_false e = let z : ◌≡◌ {A = ℕ} 0 1 = cc in omega arith
+pub set_not_open : {b : Bool} → ◌≡◌ {A = Value} (Some b) None → ⊥
+set_not_open e = cc
 
 pub flip_twice : (x : Value) → flip (flip x) ≡ x
-flip_twice Open = refl
-flip_twice True = refl
-flip_twice False = refl
+flip_twice None = refl
+flip_twice (Some true) = refl
+flip_twice (Some false) = refl
 
 pub flip_back : (x y : Value) → flip x ≡ y → x ≡ flip y
 flip_back x y e = sym (flip_twice x) ∙ ap flip e
@@ -36,19 +28,19 @@ pub below_trans : (a b c : List Value) → Below a b → Below b c → Below a c
 below_trans a b c f g v x e s = g v x (f v x e s) s
 
 module _ (a b : List Value) (less : Below a b) where
-  pub below_false : (l : ℤ) → value a l ≡ False → value b l ≡ False
-  below_false (pos n) e = less n False e false_set
-  below_false (negsuc n) e = ap flip (less (suc n) True (flip_back (get_or a (suc n) Open) False e) true_set)
+  pub below_false : (l : ℤ) → value a l ≡ Some false → value b l ≡ Some false
+  below_false (pos n) e = less n (Some false) e set_not_open
+  below_false (negsuc n) e = ap flip (less (suc n) (Some true) (flip_back (get_or a (suc n) None) (Some false) e) set_not_open)
 
-  pub below_true : (l : ℤ) → value a l ≡ True → value b l ≡ True
-  below_true (pos n) e = less n True e true_set
-  below_true (negsuc n) e = ap flip (less (suc n) False (flip_back (get_or a (suc n) Open) True e) false_set)
+  pub below_true : (l : ℤ) → value a l ≡ Some true → value b l ≡ Some true
+  below_true (pos n) e = less n (Some true) e set_not_open
+  below_true (negsuc n) e = ap flip (less (suc n) (Some false) (flip_back (get_or a (suc n) None) (Some true) e) set_not_open)
 
   live_head : (l : ℤ) (c : List ℤ) → live b (live a c) ≡ live b c → (x : Value) → value a l ≡ x → live b (live a (l ∷ c)) ≡ live b (l ∷ c)
   unfolding live
-  live_head l c h Open e = rw e (ap (λ z. cond (is_false (value b l)) z (l ∷ z)) h)
-  live_head l c h True e = rw e (ap (λ z. cond (is_false (value b l)) z (l ∷ z)) h)
-  live_head l c h False e = rw (e, below_false l e) h
+  live_head l c h None e = rw e (ap (λ z. cond (is_false (value b l)) z (l ∷ z)) h)
+  live_head l c h (Some true) e = rw e (ap (λ z. cond (is_false (value b l)) z (l ∷ z)) h)
+  live_head l c h (Some false) e = rw (e, below_false l e) h
 
   -- what is live in b, is live in a
   pub live_below : (c : List ℤ) → live b (live a c) ≡ live b c
@@ -56,37 +48,35 @@ module _ (a b : List Value) (less : Below a b) where
   live_below [] = refl
   live_below (l ∷ c) = live_head l c (live_below c) (value a l) refl
 
-pub sign_true : (b : List Value) (l : ℤ) → value b l ≡ True → get_or b (variable l) Open ≡ sign l
+pub sign_true : (b : List Value) (l : ℤ) → value b l ≡ Some true → get_or b (variable l) None ≡ sign l
 sign_true b (pos n) e = e
-sign_true b (negsuc n) e = flip_back (get_or b (suc n) Open) True e
+sign_true b (negsuc n) e = flip_back (get_or b (suc n) None) (Some true) e
 
 -- one variable more
-pub below_set : (a b : List Value) (w : ℕ) (y : Value) → Below a b → get_or b w Open ≡ y → Below (set a w y) b
+pub below_set : (a b : List Value) (w : ℕ) (y : Value) → Below a b → get_or b w None ≡ y → Below (set a w y) b
 below_set a b w y h e v x g s =
     elim (cases_eq v w) [
       | inl i ↦ elim (cases_lt v (length a)) [
-        | inl less ↦ subst (λ (k : ℕ). get_or b k Open ≡ x) (sym i) (e ∙ sym (get_or-set_same a w y Open (subst (λ (k : ℕ). k < length a) i less)) ∙ subst (λ (k : ℕ). get_or (set a w y) k Open ≡ x) i g)
-        | inr past ↦ h v x (sym (ap (λ (z : List Value). get_or z v Open) (set_past a w y (subst (λ (k : ℕ). length a ≤ k) i past))) ∙ g) s
+        | inl less ↦ subst (λ (k : ℕ). get_or b k None ≡ x) (sym i) (e ∙ sym (get_or-set_same a w y None (subst (λ (k : ℕ). k < length a) i less)) ∙ subst (λ (k : ℕ). get_or (set a w y) k None ≡ x) i g)
+        | inr past ↦ h v x (sym (ap (λ (z : List Value). get_or z v None) (set_past a w y (subst (λ (k : ℕ). length a ≤ k) i past))) ∙ g) s
       ]
-      | inr ne ↦ h v x (sym (get_or-set_other a w v y Open ne) ∙ g) s
+      | inr ne ↦ h v x (sym (get_or-set_other a w v y None ne) ∙ g) s
     ]
 
-pub below_holding : (a b : List Value) (l : ℤ) → Below a b → value b l ≡ True → Below (holding a l) b
+pub below_holding : (a b : List Value) (l : ℤ) → Below a b → value b l ≡ Some true → Below (holding a l) b
 below_holding a b l h e = below_set a b (variable l) (sign l) h (sign_true b l e)
 
-pub holding_below : (a : List Value) (l : ℤ) → get_or a (variable l) Open ≡ Open → Below a (holding a l)
+pub holding_below : (a : List Value) (l : ℤ) → get_or a (variable l) None ≡ None → Below a (holding a l)
 holding_below a l o v x e s =
     elim (cases_eq v (variable l)) [
-      | inl i ↦ absurd (s (sym e ∙ subst (λ (k : ℕ). get_or a k Open ≡ Open) (sym i) o))
-      | inr ne ↦ get_or-set_other a (variable l) v (sign l) Open ne ∙ e
+      | inl i ↦ absurd (s (sym e ∙ subst (λ (k : ℕ). get_or a k None ≡ None) (sym i) o))
+      | inr ne ↦ get_or-set_other a (variable l) v (sign l) None ne ∙ e
     ]
 
-same_value : (x y : Value) → ((z : Value) → x ≡ z → (z ≡ Open → ⊥) → y ≡ z) → ((z : Value) → y ≡ z → (z ≡ Open → ⊥) → x ≡ z) → x ≡ y
-same_value Open Open f g = refl
-same_value Open True f g = g True refl true_set
-same_value Open False f g = g False refl false_set
-same_value True y f g = sym (f True refl true_set)
-same_value False y f g = sym (f False refl false_set)
+same_value : (x y : Value) → ((z : Value) → x ≡ z → (z ≡ None → ⊥) → y ≡ z) → ((z : Value) → y ≡ z → (z ≡ None → ⊥) → x ≡ z) → x ≡ y
+same_value None None f g = refl
+same_value None (Some b) f g = g (Some b) refl set_not_open
+same_value (Some b) y f g = sym (f (Some b) refl set_not_open)
 
 pub below_both : (a b : List Value) → length a ≡ length b → Below a b → Below b a → a ≡ b
-below_both a b e f g = ext_get_or Open a b e (λ i l. same_value (get_or a i Open) (get_or b i Open) (f i) (g i))
+below_both a b e f g = ext_get_or None a b e (λ i l. same_value (get_or a i None) (get_or b i None) (f i) (g i))

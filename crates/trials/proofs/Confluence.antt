@@ -1,9 +1,7 @@
 -- Forcing is confluent.
-use Rattle.std.proofs.Common.{◌≡◌, ◌⊎◌, List, [], ◌∷◌, length, get_or, ℤ, sym, refl, ap, ◌∙◌, inl, inr, length-set}
-use Rattle.trials.specs.declared.value.Value.{Value}
-use Rattle.trials.specs.declared.value.Value.TheVariants.{Open, True, False}
+use Rattle.std.proofs.Common.{◌≡◌, ◌⊎◌, List, [], ◌∷◌, length, get_or, ℤ, sym, refl, ap, ◌∙◌, inl, inr, length-set, None, Some, true, false}
+use Rattle.trials.specs.Values.{Value, value, sign, holding}
 use Rattle.holder.specs.Widest.{variable}
-use Rattle.trials.specs.Values.{value, sign, holding}
 use Rattle.trials.specs.Forcing.{live, Conflict, Forced, Forcing, rest, next, Maximal, Quiet, Confluent}
 use Rattle.trials.specs.Exist.{open_at}
 use Rattle.trials.proofs.Below.{Below, below_none, below_trans, live_below, below_holding, holding_below, below_both}
@@ -26,13 +24,13 @@ module _ (cs : List (List ℤ)) where
     left_over : live b (get_or cs f.clause []) ≡ live b (l ∷ [])
     left_over = sym (live_below a b less (get_or cs f.clause [])) ∙ ap (live b) f.alone
 
-    met_by : Maximal cs b → (x : Value) → value b l ≡ x → (value b l ≡ True) ⊎ Conflict cs b
+    met_by : Maximal cs b → (x : Value) → value b l ≡ x → (value b l ≡ Some true) ⊎ Conflict cs b
     unfolding live
-    met_by m True e = inl e
-    met_by m False e = inr (record { clause = f.clause; held = f.held; dead = left_over ∙ rw e })
-    met_by m Open e = absurd (m l (record { clause = f.clause; held = f.held; alone = left_over ∙ rw e; opened = e }))
+    met_by m (Some true) e = inl e
+    met_by m (Some false) e = inr (record { clause = f.clause; held = f.held; dead = left_over ∙ rw e })
+    met_by m None e = absurd (m l (record { clause = f.clause; held = f.held; alone = left_over ∙ rw e; opened = e }))
 
-    met : Maximal cs b → (value b l ≡ True) ⊎ Conflict cs b
+    met : Maximal cs b → (value b l ≡ Some true) ⊎ Conflict cs b
     met m = met_by m (value b l) refl
 
   -- a maximal assignment without conflict has all that is forced on the way

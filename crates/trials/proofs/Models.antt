@@ -3,8 +3,7 @@ use Rattle.std.proofs.Common.{◌≡◌, ℕ, zero, suc, ◌+◌, ◌-◌, ◌<�
 use lib.ListN.{length-replicate}
 use Rattle.std.proofs.lemmas.Bool.{and_parts, or_parts, or_left, or_right, or_cases, both_ways, cases_Bool, not-true, ltb-true, cond-true, cond-false}
 use Rattle.std.proofs.lemmas.List.{get_or-take, get_or-drop, length-map}
-use Rattle.trials.specs.declared.value.Value.{Value}
-use Rattle.trials.specs.declared.value.Value.TheVariants.{Open, True, False}
+use Rattle.trials.specs.Values.{Value, flip, value, is_false, is_true, model_of}
 use Rattle.refusals.specs.Limits.{most_variables}
 use Rattle.runs.specs.Problems.{Each}
 use Rattle.runs.specs.Steps.{any}
@@ -12,12 +11,11 @@ use Rattle.runs.specs.Models.{valued, Model}
 use Rattle.runs.proofs.Truth.{true_from, T-from}
 use Rattle.holder.specs.Clauses.{literal_fine, all_fine}
 use Rattle.holder.specs.Widest.{variable, widest, widest_of}
-use Rattle.trials.specs.Values.{flip, value, is_false, is_true, model_of}
 use Rattle.trials.specs.Forcing.{live, Forcing, Quiet}
 use Rattle.trials.specs.Courses.{Complete, Course, fails, ends, tries, found, ended}
 use Rattle.trials.specs.Trials.{Says}
 use Rattle.trials.specs.Exist.{open_at}
-use Rattle.trials.proofs.Below.{Below, below_set, flip_back, true_set}
+use Rattle.trials.proofs.Below.{Below, below_set, flip_back, set_not_open}
 use Rattle.trials.proofs.Confluence.{along, conflict_below, forcing_long, quiet_maximal, quiet_free}
 
 -- the literals of a clause are over the variables 1 to n
@@ -55,33 +53,33 @@ each_from : (m : List Bool) (cs : List (List ℤ)) → ((i : ℕ) → i < length
 each_from m [] h = tt
 each_from m (c ∷ cs) h = (T-from (any (valued m) c) (h 0 (omega arith)), each_from m cs (λ i l. h (suc i) (omega arith)))
 
-true_at : (xs : List Value) (k : ℕ) → get_or (map is_true xs) k false ≡ is_true (get_or xs k Open)
+true_at : (xs : List Value) (k : ℕ) → get_or (map is_true xs) k false ≡ is_true (get_or xs k None)
 true_at [] k = refl
 true_at (x ∷ xs) zero = refl
 true_at (x ∷ xs) (suc k) = true_at xs k
 
 -- what a complete assignment without conflict says, is a model
 module _ (n : ℕ) (b : List Value) (full : Complete n b) where
-  value_at : (k : ℕ) → 1 ≤ k → k ≤ n → get_or (model_of n b) (k - 1) false ≡ is_true (get_or b k Open)
+  value_at : (k : ℕ) → 1 ≤ k → k ≤ n → get_or (model_of n b) (k - 1) false ≡ is_true (get_or b k None)
   value_at k l h =
       let e : 1 + (k - 1) ≡ k = omega arith in
-      true_at (take n (drop 1 b)) (k - 1) ∙ ap is_true (get_or-take n (drop 1 b) (k - 1) Open (omega arith) ∙ get_or-drop 1 b (k - 1) Open ∙ ap (λ (z : ℕ). get_or b z Open) e)
+      true_at (take n (drop 1 b)) (k - 1) ∙ ap is_true (get_or-take n (drop 1 b) (k - 1) None (omega arith) ∙ get_or-drop 1 b (k - 1) None ∙ ap (λ (z : ℕ). get_or b z None) e)
 
-  true_holds : (l : ℤ) → 1 ≤ variable l → variable l ≤ n → value b l ≡ True → valued (model_of n b) l ≡ true
+  true_holds : (l : ℤ) → 1 ≤ variable l → variable l ≤ n → value b l ≡ Some true → valued (model_of n b) l ≡ true
   true_holds (pos k) low high e = value_at k low high ∙ ap is_true e
   true_holds (negsuc k) low high e =
-      let f : get_or b (suc k) Open ≡ False = flip_back (get_or b (suc k) Open) True e in
+      let f : get_or b (suc k) None ≡ Some false = flip_back (get_or b (suc k) None) (Some true) e in
       let g : suc k - 1 ≡ k = omega arith in
       ap not (ap (λ (z : ℕ). get_or (model_of n b) z false) (sym g) ∙ value_at (suc k) low high ∙ ap is_true f)
 
-  open_not : (l : ℤ) → 1 ≤ variable l → variable l ≤ n → value b l ≡ Open → ⊥
+  open_not : (l : ℤ) → 1 ≤ variable l → variable l ≤ n → value b l ≡ None → ⊥
   open_not l low high e = full (variable l) low high (open_at b l e)
 
   clause_head : (l : ℤ) (c : List ℤ) → Proper n (l ∷ c) → ((live b c ≡ [] → ⊥) → any (valued (model_of n b)) c ≡ true) → (live b (l ∷ c) ≡ [] → ⊥) → (x : Value) → value b l ≡ x → any (valued (model_of n b)) (l ∷ c) ≡ true
   unfolding live
-  clause_head l c p h alive True e = or_left _ _ (true_holds l p.0 p.1 e)
-  clause_head l c p h alive Open e = absurd (open_not l p.0 p.1 e)
-  clause_head l c p h alive False e = or_right _ _ (h (λ d. alive (rw e d)))
+  clause_head l c p h alive (Some true) e = or_left _ _ (true_holds l p.0 p.1 e)
+  clause_head l c p h alive None e = absurd (open_not l p.0 p.1 e)
+  clause_head l c p h alive (Some false) e = or_right _ _ (h (λ d. alive (rw e d)))
 
   clause_holds : (c : List ℤ) → Proper n c → (live b c ≡ [] → ⊥) → any (valued (model_of n b)) c ≡ true
   unfolding live
@@ -96,54 +94,54 @@ module _ (n : ℕ) (b : List Value) (full : Complete n b) where
 
 -- the assignment that a model stands for
 abbrev pub told : Bool → Value
-told b = cond b True False
+told b = cond b (Some true) (Some false)
 
 abbrev pub of_model : List Bool → List Value
-of_model m = Open ∷ map told m
+of_model m = None ∷ map told m
 
-told_at : (m : List Bool) (k : ℕ) → k < length m → get_or (map told m) k Open ≡ told (get_or m k false)
+told_at : (m : List Bool) (k : ℕ) → k < length m → get_or (map told m) k None ≡ told (get_or m k false)
 told_at [] k l = absurd (let w : ⊥ = omega arith in w)
 told_at (x ∷ m) zero l = refl
 told_at (x ∷ m) (suc k) l = told_at m k (omega arith)
 
 module _ (n : ℕ) (m : List Bool) (long : length m ≡ n) where
-  holds_told : (l : ℤ) → 1 ≤ variable l → variable l ≤ n → valued m l ≡ true → value (of_model m) l ≡ True
+  holds_told : (l : ℤ) → 1 ≤ variable l → variable l ≤ n → valued m l ≡ true → value (of_model m) l ≡ Some true
   holds_told (pos zero) low high h = absurd (let w : ⊥ = omega arith in w)
   holds_told (pos (suc k)) low high h =
       let g : suc k - 1 ≡ k = omega arith in
-      told_at m k (omega arith) ∙ ap (λ b. cond b True False) (subst (λ (z : ℕ). get_or m z false ≡ true) g h)
-  holds_told (negsuc k) low high h = ap flip (told_at m k (omega arith) ∙ ap (λ b. cond b True False) (not-true _ h))
+      told_at m k (omega arith) ∙ ap (λ b. cond b (Some true) (Some false)) (subst (λ (z : ℕ). get_or m z false ≡ true) g h)
+  holds_told (negsuc k) low high h = ap flip (told_at m k (omega arith) ∙ ap (λ b. cond b (Some true) (Some false)) (not-true _ h))
 
-  told_set : (v : ℕ) → 1 ≤ v → v ≤ n → (get_or (of_model m) v Open ≡ True) ⊎ (get_or (of_model m) v Open ≡ False)
+  told_set : (v : ℕ) → 1 ≤ v → v ≤ n → (get_or (of_model m) v None ≡ Some true) ⊎ (get_or (of_model m) v None ≡ Some false)
   told_set zero low high = absurd (let w : ⊥ = omega arith in w)
   told_set (suc k) low high = elim (cases_Bool (get_or m k false)) [
-    | inl e ↦ inl (told_at m k (omega arith) ∙ ap (λ b. cond b True False) e)
-    | inr e ↦ inr (told_at m k (omega arith) ∙ ap (λ b. cond b True False) e)
+    | inl e ↦ inl (told_at m k (omega arith) ∙ ap (λ b. cond b (Some true) (Some false)) e)
+    | inr e ↦ inr (told_at m k (omega arith) ∙ ap (λ b. cond b (Some true) (Some false)) e)
   ]
 
   -- a clause that holds has a literal that is true, so that it is calm
   abbrev Lively : List ℤ → Type 0
-  Lively c = (live (of_model m) c ≡ [] → ⊥) × ((l : ℤ) → live (of_model m) c ≡ l ∷ [] → value (of_model m) l ≡ True)
+  Lively c = (live (of_model m) c ≡ [] → ⊥) × ((l : ℤ) → live (of_model m) c ≡ l ∷ [] → value (of_model m) l ≡ Some true)
 
-  lively_true : (l : ℤ) (c : List ℤ) → value (of_model m) l ≡ True → Lively (l ∷ c)
+  lively_true : (l : ℤ) (c : List ℤ) → value (of_model m) l ≡ Some true → Lively (l ∷ c)
   unfolding live
   lively_true l c e = (
-    λ d. let f : l ∷ live (of_model m) c ≡ [] = rw e at d in let z : ◌≡◌ {A = ℕ} 0 1 = cc in omega arith,
-    λ k d. let f : l ∷ live (of_model m) c ≡ k ∷ [] = rw e at d in let g : l ≡ k = cc in subst (λ (z : ℤ). value (of_model m) z ≡ True) g e,
+    λ d. let f : l ∷ live (of_model m) c ≡ [] = rw e at d in cc,
+    λ k d. let f : l ∷ live (of_model m) c ≡ k ∷ [] = rw e at d in let g : l ≡ k = cc in subst (λ (z : ℤ). value (of_model m) z ≡ Some true) g e,
   )
 
   live_on : (l : ℤ) (c : List ℤ) → is_false (value (of_model m) l) ≡ false → Lively c → Lively (l ∷ c)
   unfolding live
   live_on l c e h = (
-    λ d. let f : l ∷ live (of_model m) c ≡ [] = rw e at d in let z : ◌≡◌ {A = ℕ} 0 1 = cc in omega arith,
+    λ d. let f : l ∷ live (of_model m) c ≡ [] = rw e at d in cc,
     λ k d. let f : l ∷ live (of_model m) c ≡ k ∷ [] = rw e at d in let g : live (of_model m) c ≡ [] = cc in absurd (h.0 g),
   )
 
   lively_more : (l : ℤ) (c : List ℤ) → Lively c → (x : Value) → value (of_model m) l ≡ x → Lively (l ∷ c)
   unfolding live
-  lively_more l c h True e = lively_true l c e
-  lively_more l c h Open e = live_on l c (ap is_false e) h
-  lively_more l c h False e = (λ d. h.0 (rw e at d), λ k d. h.1 k (rw e at d))
+  lively_more l c h (Some true) e = lively_true l c e
+  lively_more l c h None e = live_on l c (ap is_false e) h
+  lively_more l c h (Some false) e = (λ d. h.0 (rw e at d), λ k d. h.1 k (rw e at d))
 
   lively : (c : List ℤ) → Proper n c → any (valued m) c ≡ true → Lively c
   lively [] p h = absurd (both_ways false refl h)
@@ -156,7 +154,7 @@ module _ (n : ℕ) (m : List Bool) (long : length m ≡ n) where
     model_quiet : Quiet cs (of_model m)
     model_quiet i l =
         let t = lively (get_or cs i []) (p i l) (each_at m cs h i l) in
-        record { alive = t.0; still = λ k e o. true_set (sym (t.1 k e) ∙ o) }
+        record { alive = t.0; still = λ k e o. set_not_open (sym (t.1 k e) ∙ o) }
 
     kept_below : {a b : List Value} → Forcing cs a b → Below a (of_model m) → Below b (of_model m)
     kept_below f less = elim (along cs (of_model m) (quiet_maximal cs (of_model m) model_quiet) f less) [ inl k ↦ k | inr c ↦ absurd (quiet_free cs (of_model m) model_quiet c) ]
@@ -170,20 +168,20 @@ module _ (n : ℕ) (m : List Bool) (long : length m ≡ n) where
         let r = or_parts _ _ e in
         let k = kept_below f less in
         elim (told_set v o.low o.high) [
-          | inl y ↦ agrees_found t (below_set b (of_model m) v True k y) r.0
-          | inr y ↦ agrees_found u (below_set b (of_model m) v False k y) r.1
+          | inl y ↦ agrees_found t (below_set b (of_model m) v (Some true) k y) r.0
+          | inr y ↦ agrees_found u (below_set b (of_model m) v (Some false) k y) r.1
         ]
 
-pub blank_below : (k : ℕ) (b : List Value) → Below (replicate k Open) b
+pub blank_below : (k : ℕ) (b : List Value) → Below (replicate k None) b
 blank_below k b v x e s = absurd (s (sym e ∙ blank_at k v))
   where
-    blank_at : (k v : ℕ) → get_or (replicate k Open) v Open ≡ Open
+    blank_at : (k v : ℕ) → get_or {A = Value} (replicate k None) v None ≡ None
     blank_at zero v = refl
     blank_at (suc k) zero = refl
     blank_at (suc k) (suc v) = blank_at k v
 
 -- a search that finds nothing
-pub no_model : (cs : List (List ℤ)) (n : ℕ) → AllProper n cs → (k : ℕ) (q : Course cs n (replicate k Open)) → found q ≡ false → (m : List Bool) → Model n cs m → ⊥
+pub no_model : (cs : List (List ℤ)) (n : ℕ) → AllProper n cs → (k : ℕ) (q : Course cs n (replicate k None)) → found q ≡ false → (m : List Bool) → Model n cs m → ⊥
 no_model cs n p k q e m h = agrees_found n m h.long cs p h.each q (blank_below k (of_model m)) e
 
 -- the assignment that a search ends in
@@ -193,8 +191,8 @@ ended_model cs n p (fails b f c) l = (λ e. absurd (both_ways false refl e), λ 
 ended_model cs n p (ends b f q k) l = (λ e. (b, refl, shows_model n b k cs p (let g = forcing_long cs f in omega arith) q), λ e. absurd (both_ways true e refl))
 ended_model cs n p (tries b v f q o t u) l =
     let g = forcing_long cs f in
-    let x = ended_model cs n p t (let j = length-set b v True in omega arith) in
-    let y = ended_model cs n p u (let j = length-set b v False in omega arith) in
+    let x = ended_model cs n p t (let j = length-set b v (Some true) in omega arith) in
+    let y = ended_model cs n p u (let j = length-set b v (Some false) in omega arith) in
     elim (cases_Bool (found t)) [
       | inl e ↦ (λ _. let r = x.0 e in (r.0, cond-true (found t) (ended t) (ended u) e ∙ r.1, r.2), λ h. absurd (both_ways (found t) (or_parts _ _ h).0 e))
       | inr e ↦ (
@@ -203,9 +201,9 @@ ended_model cs n p (tries b v f q o t u) l =
       )
     ]
 
-pub says : (cs : List (List ℤ)) (n : ℕ) → AllProper n cs → (k : ℕ) → n < k → (q : Course cs n (replicate k Open)) → Says n cs (ended q)
+pub says : (cs : List (List ℤ)) (n : ℕ) → AllProper n cs → (k : ℕ) → n < k → (q : Course cs n (replicate k None)) → Says n cs (ended q)
 says cs n p k l q =
-    let r = ended_model cs n p q (let j = length-replicate k Open in omega arith) in
+    let r = ended_model cs n p q (let j = length-replicate {A = Value} k None in omega arith) in
     elim (cases_Bool (found q)) [
       | inl e ↦ let w = r.0 e in subst (Says n cs) (sym w.1) w.2
       | inr e ↦ subst (Says n cs) (sym (r.1 e)) (no_model cs n p k q e)

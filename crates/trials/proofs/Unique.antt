@@ -1,8 +1,7 @@
 -- All courses from one assignment make the same trials, find the same and end in the same assignment.
 use Rattle.std.proofs.Common.{◌≡◌, ℕ, ◌+◌, true, false, cond, ◌||◌, List, get_or, set, ℤ, Some, None, sym, refl, ap, ◌∙◌, subst, inl, inr}
 use Rattle.std.proofs.lemmas.Bool.{cases_order}
-use Rattle.trials.specs.declared.value.Value.{Value}
-use Rattle.trials.specs.declared.value.Value.TheVariants.{Open, True, False}
+use Rattle.trials.specs.Values.{Value}
 use Rattle.trials.specs.Forcing.{Conflict, Forcing, Quiet}
 use Rattle.trials.specs.Courses.{FirstOpen, Complete, Course, fails, ends, tries, found, tried, ended}
 use Rattle.trials.proofs.Confluence.{same_end, same_conflict, quiet_maximal, quiet_free}
@@ -17,8 +16,8 @@ first_same n a v w f g = elim (cases_order v w) [
 module _ (cs : List (List ℤ)) (n : ℕ) where
   -- a course that tries v after it has come to b
   pub record Split (a b : List Value) (v : ℕ) (p : Course cs n a) : Type 0 where
-    pub on : Course cs n (set b v True)
-    pub off : Course cs n (set b v False)
+    pub on : Course cs n (set b v (Some true))
+    pub off : Course cs n (set b v (Some false))
     pub finds : found p ≡ (found on || found off)
     pub counts : tried p ≡ cond (found on) (1 + tried on) (2 + (tried on + tried off))
     pub comes : ended p ≡ cond (found on) (ended on) (ended off)
@@ -42,14 +41,14 @@ module _ (cs : List (List ℤ)) (n : ℕ) where
     finished q e (ends b' f' q' e') = (refl, refl, ap Some (same_end cs a b' b f' q' f q))
     finished q e (tries b' v f' q' o t u) =
         let s = same_end cs a b' b f' q' f q in
-        absurd (e v o.low o.high (subst (λ (z : List Value). get_or z v Open ≡ Open) s o.opened))
+        absurd (e v o.low o.high (subst (λ (z : List Value). get_or z v None ≡ None) s o.opened))
 
     pub split : Quiet cs b → (v : ℕ) → FirstOpen n b v → (p : Course cs n a) → Split a b v p
     unfolding found tried ended
     split q v o (fails b' f' c) = absurd (no_conflict b' f' c q)
     split q v o (ends b' f' q' e) =
         let s = same_end cs a b' b f' q' f q in
-        absurd (e v o.low o.high (subst (λ (z : List Value). get_or z v Open ≡ Open) (sym s) o.opened))
+        absurd (e v o.low o.high (subst (λ (z : List Value). get_or z v None ≡ None) (sym s) o.opened))
     split q v o (tries b' v' f' q' o' t u) =
         let p : Course cs n a = tries b' v' f' q' o' t u in
         let s = same_end cs a b' b f' q' f q in

@@ -1,25 +1,24 @@
 -- The course of a search over the variables 1 to n, and its trials.
 use Rattle.std.specs.Prelude.{◌≡◌, ℕ, ◌+◌, ◌<◌, ◌≤◌, Bool, true, false, cond, ◌||◌, List, get_or, ℤ, Some, None, Option, ◌≢◌, slice_index_or, slice_set}
-use Rattle.trials.specs.declared.value.Value.{Value}
-use Rattle.trials.specs.declared.value.Value.TheVariants.{Open, True, False}
+use Rattle.trials.specs.Values.{Value}
 use Rattle.trials.specs.Forcing.{Forcing, Conflict, Quiet}
 
 -- the smallest open variable of 1 to n is v
 pub record FirstOpen (n : ℕ) (a : List Value) (v : ℕ) : Type 0 where
   pub low : 1 ≤ v
   pub high : v ≤ n
-  pub opened : get_or a v Open ≡ Open
-  pub before : (w : ℕ) → 1 ≤ w → w < v → slice_index_or a w Open ≢ Open
+  pub opened : get_or a v None ≡ None
+  pub before : (w : ℕ) → 1 ≤ w → w < v → slice_index_or a w None ≢ None
 
 -- none of them is open
 abbrev pub Complete : ℕ → List Value → Type 0
-Complete n a = (w : ℕ) → 1 ≤ w → w ≤ n → slice_index_or a w Open ≢ Open
+Complete n a = (w : ℕ) → 1 ≤ w → w ≤ n → slice_index_or a w None ≢ None
 
 -- After forcing, a conflict fails; no open variable is an end; else the smallest open variable is tried true, and false.
 pub data Course (cs : List (List ℤ)) (n : ℕ) : List Value → Type 0 where
   fails : {a : List Value} (b : List Value) → Forcing cs a b → Conflict cs b → Course cs n a
   ends : {a : List Value} (b : List Value) → Forcing cs a b → Quiet cs b → Complete n b → Course cs n a
-  tries : {a : List Value} (b : List Value) (v : ℕ) → Forcing cs a b → Quiet cs b → FirstOpen n b v → Course cs n (slice_set b v True) → Course cs n (slice_set b v False) → Course cs n a
+  tries : {a : List Value} (b : List Value) (v : ℕ) → Forcing cs a b → Quiet cs b → FirstOpen n b v → Course cs n (slice_set b v (Some true)) → Course cs n (slice_set b v (Some false)) → Course cs n a
 
 -- some way through the trials comes to an end
 unfoldable pub found : {cs : List (List ℤ)} {n : ℕ} {a : List Value} → Course cs n a → Bool

@@ -1,37 +1,31 @@
 -- Every search has a course.
-use Rattle.std.specs.Prelude.{◌≡◌, ℕ, zero, suc, ◌<◌, ◌≤◌, true, false, cond, ◌⊎◌, List, [], ◌∷◌, length, ℤ, pos, negsuc, ◌≢◌, slice_index_or, slice_set, refl}
+use Rattle.std.specs.Prelude.{◌≡◌, ℕ, zero, suc, ◌<◌, ◌≤◌, true, false, cond, ◌⊎◌, List, [], ◌∷◌, length, ℤ, pos, negsuc, ◌≢◌, slice_index_or, slice_set, refl, None, Some}
 use Rattle.std.proofs.Common.{sym, ap, subst, ◌∙◌, inl, inr, arith, length-set}
 use Rattle.std.proofs.lemmas.Bool.{cases_eq}
-use Rattle.trials.specs.declared.value.Value.{Value}
-use Rattle.trials.specs.declared.value.Value.TheVariants.{Open, True, False}
+use Rattle.trials.specs.Values.{Value, flip, value, is_false, sign, holding, opens}
 use Rattle.holder.specs.Widest.{variable, widest_of, widest}
-use Rattle.trials.specs.Values.{flip, value, is_false, sign, holding, opens}
 use Rattle.trials.specs.Forcing.{live, Conflict, Forced, Forcing, rest, next, Calm, Quiet}
 use Rattle.trials.specs.Courses.{FirstOpen, Complete, Course, fails, ends, tries}
 
 -- one clause
 pub data Judged (a : List Value) (c : List ℤ) : Type 0 where
   dead : live a c ≡ [] → Judged a c
-  alone : (l : ℤ) → live a c ≡ l ∷ [] → value a l ≡ Open → Judged a c
+  alone : (l : ℤ) → live a c ≡ l ∷ [] → value a l ≡ None → Judged a c
   calm : Calm a c → Judged a c
 
 judge_one : (a : List Value) (c : List ℤ) (l : ℤ) → live a c ≡ l ∷ [] → (x : Value) → value a l ≡ x → Judged a c
-judge_one a c l e Open v = alone l e v
-judge_one a c l e True v = calm (record {
-  alive = λ d. let z : ◌≡◌ {A = ℕ} 0 1 = cc in omega arith;
-  still = λ m f o. let s : l ≡ m = cc in let z : True ≡ Open = cc in let z : ◌≡◌ {A = ℕ} 0 1 = cc in omega arith;
-})
-judge_one a c l e False v = calm (record {
-  alive = λ d. let z : ◌≡◌ {A = ℕ} 0 1 = cc in omega arith;
-  still = λ m f o. let s : l ≡ m = cc in let z : False ≡ Open = cc in let z : ◌≡◌ {A = ℕ} 0 1 = cc in omega arith;
+judge_one a c l e None v = alone l e v
+judge_one a c l e (Some b) v = calm (record {
+  alive = λ d. cc;
+  still = λ m f o. let s : l ≡ m = cc in let z : Some b ≡ None = cc in cc;
 })
 
 judge_live : (a : List Value) (c ls : List ℤ) → live a c ≡ ls → Judged a c
 judge_live a c [] e = dead e
 judge_live a c (l ∷ []) e = judge_one a c l e (value a l) refl
 judge_live a c (l ∷ m ∷ ls) e = calm (record {
-  alive = λ d. let z : ◌≡◌ {A = ℕ} 0 1 = cc in omega arith;
-  still = λ k f o. let z : ◌≡◌ {A = ℕ} 0 1 = cc in omega arith;
+  alive = λ d. cc;
+  still = λ k f o. cc;
 })
 
 pub judge : (a : List Value) (c : List ℤ) → Judged a c
@@ -76,30 +70,26 @@ pub forced_within : (n : ℕ) (cs : List (List ℤ)) (a : List Value) (l : ℤ) 
 forced_within n cs a l w f = (subst (WithinClause n) f.alone (within_live n a (slice_index_or cs f.clause []) (w f.clause f.held))).0
 
 -- one variable fewer is open
-pub opens_set : (a : List Value) (v : ℕ) (x : Value) → v < length a → slice_index_or a v Open ≡ Open → (x ≢ Open) → opens a ≡ suc (opens (slice_set a v x))
+pub opens_set : (a : List Value) (v : ℕ) (x : Value) → v < length a → slice_index_or a v None ≡ None → (x ≢ None) → opens a ≡ suc (opens (slice_set a v x))
 unfolding opens
 opens_set [] v x h e s = absurd (let w : ⊥ = omega arith in w)
-opens_set (Open ∷ a) zero Open h e s = absurd (s refl)
-opens_set (Open ∷ a) zero True h e s = refl
-opens_set (Open ∷ a) zero False h e s = refl
-opens_set (True ∷ a) zero x h e s = absurd (let z : ◌≡◌ {A = ℕ} 0 1 = cc in let w : ⊥ = omega arith in w)
-opens_set (False ∷ a) zero x h e s = absurd (let z : ◌≡◌ {A = ℕ} 0 1 = cc in let w : ⊥ = omega arith in w)
-opens_set (Open ∷ a) (suc v) x h e s = ap suc (opens_set a v x (omega arith) e s)
-opens_set (True ∷ a) (suc v) x h e s = opens_set a v x (omega arith) e s
-opens_set (False ∷ a) (suc v) x h e s = opens_set a v x (omega arith) e s
+opens_set (None ∷ a) zero None h e s = absurd (s refl)
+opens_set (None ∷ a) zero (Some b) h e s = refl
+opens_set (Some b ∷ a) zero x h e s = cc
+opens_set (None ∷ a) (suc v) x h e s = ap suc (opens_set a v x (omega arith) e s)
+opens_set (Some b ∷ a) (suc v) x h e s = opens_set a v x (omega arith) e s
 
-pub sign_set : (l : ℤ) → sign l ≢ Open
-sign_set (pos n) e = let z : ◌≡◌ {A = ℕ} 0 1 = cc in omega arith
-sign_set (negsuc n) e = let z : ◌≡◌ {A = ℕ} 0 1 = cc in omega arith
+pub sign_set : (l : ℤ) → sign l ≢ None
+sign_set (pos n) e = cc
+sign_set (negsuc n) e = cc
 
-pub flip_open : (x : Value) → flip x ≡ Open → x ≡ Open
-flip_open Open e = refl
-flip_open True e = absurd (let z : ◌≡◌ {A = ℕ} 0 1 = cc in let w : ⊥ = omega arith in w)
-flip_open False e = absurd (let z : ◌≡◌ {A = ℕ} 0 1 = cc in let w : ⊥ = omega arith in w)
+pub flip_open : (x : Value) → flip x ≡ None → x ≡ None
+flip_open None e = refl
+flip_open (Some b) e = cc
 
-pub open_at : (a : List Value) (l : ℤ) → value a l ≡ Open → slice_index_or a (variable l) Open ≡ Open
+pub open_at : (a : List Value) (l : ℤ) → value a l ≡ None → slice_index_or a (variable l) None ≡ None
 open_at a (pos n) e = e
-open_at a (negsuc n) e = flip_open (slice_index_or a (suc n) Open) e
+open_at a (negsuc n) e = flip_open (slice_index_or a (suc n) None) e
 
 -- where forcing from a leads
 pub record Led (cs : List (List ℤ)) (a : List Value) : Type 0 where
@@ -131,22 +121,21 @@ pub data Pick (n : ℕ) (a : List Value) : Type 0 where
   all_set : Complete n a → Pick n a
   first : (v : ℕ) → FirstOpen n a v → Pick n a
 
-value_set : (x : Value) → (x ≡ Open) ⊎ (x ≢ Open)
-value_set Open = inl refl
-value_set True = inr (λ e. let z : ◌≡◌ {A = ℕ} 0 1 = cc in omega arith)
-value_set False = inr (λ e. let z : ◌≡◌ {A = ℕ} 0 1 = cc in omega arith)
+value_set : (x : Value) → (x ≡ None) ⊎ (x ≢ None)
+value_set None = inl refl
+value_set (Some b) = inr (λ e. cc)
 
-pick_more : (n : ℕ) (a : List Value) → Pick n a → (slice_index_or a (suc n) Open ≡ Open) ⊎ (slice_index_or a (suc n) Open ≢ Open) → Pick (suc n) a
+pick_more : (n : ℕ) (a : List Value) → Pick n a → (slice_index_or a (suc n) None ≡ None) ⊎ (slice_index_or a (suc n) None ≢ None) → Pick (suc n) a
 pick_more n a (first v f) x = first v (record { low = f.low; high = omega (arith, f.high); opened = f.opened; before = f.before })
 pick_more n a (all_set c) (inl e) = first (suc n) (record { low = omega arith; high = omega arith; opened = e; before = λ w l h o. c w l (omega arith) o })
-pick_more n a (all_set c) (inr s) = all_set (λ w l h o. elim (cases_eq w (suc n)) [ inl e ↦ s (subst (λ (k : ℕ). slice_index_or a k Open ≡ Open) e o) | inr ne ↦ c w l (omega arith) o ])
+pick_more n a (all_set c) (inr s) = all_set (λ w l h o. elim (cases_eq w (suc n)) [ inl e ↦ s (subst (λ (k : ℕ). slice_index_or a k None ≡ None) e o) | inr ne ↦ c w l (omega arith) o ])
 
 pub pick : (n : ℕ) (a : List Value) → Pick n a
 pick zero a = all_set (λ w l h o. omega arith)
-pick (suc n) a = pick_more n a (pick n a) (value_set (slice_index_or a (suc n) Open))
+pick (suc n) a = pick_more n a (pick n a) (value_set (slice_index_or a (suc n) None))
 
 module _ (cs : List (List ℤ)) (n : ℕ) where
-  course_on : (a : List Value) → (r : Led cs a) → n < length a → Pick n r.to → ((v : ℕ) → FirstOpen n r.to v → Course cs n (slice_set r.to v True)) → ((v : ℕ) → FirstOpen n r.to v → Course cs n (slice_set r.to v False)) → Quiet cs r.to → Course cs n a
+  course_on : (a : List Value) → (r : Led cs a) → n < length a → Pick n r.to → ((v : ℕ) → FirstOpen n r.to v → Course cs n (slice_set r.to v (Some true))) → ((v : ℕ) → FirstOpen n r.to v → Course cs n (slice_set r.to v (Some false))) → Quiet cs r.to → Course cs n a
   course_on a r h (all_set c) t u q = ends r.to r.run q c
   course_on a r h (first v f) t u q = tries r.to v r.run q f (t v f) (u v f)
 
@@ -156,13 +145,13 @@ module _ (cs : List (List ℤ)) (n : ℕ) where
       let r = lead cs (suc fuel) a h w in
       let o = r.fewer in
       let g = r.long in
-      let further : (x : Value) → (x ≢ Open) → (v : ℕ) → FirstOpen n r.to v → Course cs n (slice_set r.to v x) =
+      let further : (x : Value) → (x ≢ None) → (v : ℕ) → FirstOpen n r.to v → Course cs n (slice_set r.to v x) =
       (λ x s v f. let k = opens_set r.to v x (omega (arith, f.high)) f.opened s in
       let m : length (slice_set r.to v x) ≡ length a = length-set r.to v x ∙ g in
       course fuel (slice_set r.to v x) (omega arith) (omega arith) (subst (λ z. Within z cs) (sym m) w)) in
       elim r.how [
         | inl c ↦ fails r.to r.run c
-        | inr q ↦ course_on a r l (pick n r.to) (further True (λ e. let z : ◌≡◌ {A = ℕ} 0 1 = cc in omega arith)) (further False (λ e. let z : ◌≡◌ {A = ℕ} 0 1 = cc in omega arith)) q
+        | inr q ↦ course_on a r l (pick n r.to) (further (Some true) (λ e. cc)) (further (Some false) (λ e. cc)) q
       ]
 
 within_of : (c : List ℤ) (n : ℕ) → widest_of c < n → WithinClause n c

@@ -1,8 +1,6 @@
 -- Forcing: while a clause has all its literals false but one that is open, that one becomes true.
-use Rattle.std.specs.Prelude.{◌≡◌, ℕ, ◌<◌, cond, List, [], ◌∷◌, length, ℤ, ◌≢◌, slice_index_or}
-use Rattle.trials.specs.declared.value.Value.{Value}
-use Rattle.trials.specs.declared.value.Value.TheVariants.{Open}
-use Rattle.trials.specs.Values.{value, is_false, holding}
+use Rattle.std.specs.Prelude.{◌≡◌, ℕ, ◌<◌, cond, List, [], ◌∷◌, length, ℤ, ◌≢◌, slice_index_or, None}
+use Rattle.trials.specs.Values.{Value, value, is_false, holding}
 
 -- the literals of a clause that are not false, each as often as it stands there
 unfoldable pub live : List Value → List ℤ → List ℤ
@@ -20,7 +18,7 @@ pub record Forced (cs : List (List ℤ)) (a : List Value) (l : ℤ) : Type 0 whe
   pub clause : ℕ
   pub held : clause < length cs
   pub alone : live a (slice_index_or cs clause []) ≡ l ∷ []
-  pub opened : value a l ≡ Open
+  pub opened : value a l ≡ None
 
 -- b comes from a by forced literals, in any order
 pub data Forcing (cs : List (List ℤ)) : List Value → List Value → Type 0 where
@@ -34,7 +32,7 @@ Maximal cs a = (l : ℤ) → Forced cs a l → ⊥
 -- a clause that is not wholly false and forces nothing
 pub record Calm (a : List Value) (c : List ℤ) : Type 0 where
   pub alive : live a c ≡ [] → ⊥
-  pub still : (l : ℤ) → live a c ≡ l ∷ [] → value a l ≢ Open
+  pub still : (l : ℤ) → live a c ≡ l ∷ [] → value a l ≢ None
 
 -- no conflict, and nothing more is forced
 abbrev pub Quiet : List (List ℤ) → List Value → Type 0

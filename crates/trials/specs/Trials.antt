@@ -4,21 +4,19 @@ use Rattle.std.proofs.Common.{arith}
 use Rattle.std.proofs.lemmas.List.{length-replicate}
 use Rattle.runs.specs.Models.{Model}
 use Rattle.holder.specs.Clauses.{all_fine}
-use Rattle.trials.specs.declared.value.Value.{Value}
-use Rattle.trials.specs.declared.value.Value.TheVariants.{Open}
+use Rattle.trials.specs.Values.{Value, opens, model_of}
 use Rattle.holder.specs.Widest.{widest}
-use Rattle.trials.specs.Values.{opens, model_of}
 use Rattle.trials.specs.Courses.{Course, tried, ended}
 use Rattle.trials.specs.Exist.{course, within_all}
 
 -- all variables open
 abbrev pub blank : List (List ℤ) → ℕ → List Value
-blank cs n = replicate (suc (max n (widest cs))) Open
+blank cs n = replicate (suc (max n (widest cs))) None
 
 -- a course of the search from the start
 unfoldable pub whole : (cs : List (List ℤ)) (n : ℕ) → Course cs n (blank cs n)
 whole cs n =
-    let e = length-replicate (suc (max n (widest cs))) Open in
+    let e = length-replicate {A = Value} (suc (max n (widest cs))) None in
     course cs n (suc (opens (blank cs n))) (blank cs n) (omega arith) (omega arith) (within_all cs (length (blank cs n)) (omega arith))
 
 -- how many trials the search makes, to its end

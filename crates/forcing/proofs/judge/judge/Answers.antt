@@ -1,45 +1,41 @@
-use Rattle.std.proofs.Common.{◌≡◌, ◌+◌, ◌<◌, [], ◌∷◌, length, get_or, drop, ℤ, pos, sym, ap, ◌∙◌, arith, w32, SFits, rules}
+use Rattle.std.proofs.Common.{rules, tests, ◌≡◌, true, false, is_some, None, [], ◌∷◌, filter, sym, ap, ◌∙◌, w32, SFits}
 use Rattle.std.proofs.lemmas.Int.{to_z-of_z}
-use Rattle.trials.specs.declared.value.Value.TheVariants.{True}
+use Rattle.std.proofs.lemmas.Iterator.{YieldsList-from_slice}
+use Rattle.std.proofs.lemmas.Iterator.Consumers.{YieldsList-from_filter, YieldsList-at}
 use Rattle.trials.specs.Values.{value}
-use Rattle.trials.specs.Forcing.{live}
-use Rattle.forcing.proofs.Judging.{live_stands, live_end, calm_true, calm_two}
+use Rattle.forcing.proofs.Judging.{lives, live_filter, yields_none, yields_some, calm_set, calm_two, none_from, some_from}
+use Rattle.forcing.proofs.judge.judge.Goals.{then-is_some-via-then-is_some, then-is_some-via-else-is_some+then-is_some-2}
 use Rattle.forcing.proofs.judge.judge.Goals as goal
 
-pub returns-then-first-clause : goal.returns-then-first-clause
-returns-then-first-clause c =
-    let i = c.first_live-first.result in
-    c.first_live-first.ensures.passed ∙ live_end c.args.values.now c.args.clause.now i (omega arith)
-
-pub returns-in-True : goal.returns-in-True
-returns-in-True c =
+pub returns-in_default : goal.returns-in_default
+returns-in_default c =
     let a = c.args.values.now in
     let k = c.args.clause.now in
-    let i = c.first_live-first.result in
-    let x = get_or k i (pos 0) in
-    let f : SFits w32 x = search rules in
-    let l : i < length k = omega (arith, c.first_live-first.ensures.high) in
-    let e : True ≡ value a x = c.in-True.ensures ∙ ap (value a) (to_z-of_z w32 x f) in
-    calm_true a k x (live a (drop (i + 1) k)) (c.first_live-first.ensures.passed ∙ live_stands a k i l (c.first_live-first.ensures.stands l)) (sym e)
+    sym (live_filter a k) ∙ yields_none (filter (lives a) k) (YieldsList-from_filter _ (lives a) (YieldsList-at c.filter-live.ensures.source (YieldsList-from_slice k cc)) c.filter-live.ensures.closure (λ x b q k. search (rules, tests))) c.next.result c.next.new.self c.in_default.is c.next.ensures.steps
 
-pub returns-then-first_live-clause : goal.returns-then-first_live-clause
-returns-then-first_live-clause c =
+pub returns-then-is_some : goal.returns-then-is_some
+returns-then-is_some c =
     let a = c.args.values.now in
     let k = c.args.clause.now in
-    let i = c.first_live-first.result in
-    let j = c.first_live.result in
-    let l : i < length k = omega (arith, c.first_live-first.ensures.high) in
-    let m : j < length k = c.if-first_live-clause.true in
-    calm_two a k (get_or k i (pos 0)) (live a (drop (i + 1) k)) (c.first_live-first.ensures.passed ∙ live_stands a k i l (c.first_live-first.ensures.stands l)) (get_or k j (pos 0)) (live a (drop (j + 1) k)) (c.first_live.ensures.passed ∙ live_stands a k j m (c.first_live.ensures.stands m))
+    let l = c.in-Some.lit.now in
+    let f : SFits w32 l = search rules in
+    let y = yields_some (filter (lives a) k) (YieldsList-from_filter _ (lives a) (YieldsList-at c.filter-live.ensures.source (YieldsList-from_slice k cc)) c.filter-live.ensures.closure (λ x b q k. search (rules, tests))) c.next.result c.in-Some.lit c.next.new.self c.in-Some.is c.next.ensures.steps in
+    elim c.then-is_some.branch [
+      | then-is_some-via-then-is_some w ↦ calm_set a k l y.0 (sym (live_filter a k) ∙ y.1) (λ e. let v : c.value_of.result ≡ None = c.value_of.ensures ∙ ap (value a) (to_z-of_z w32 l f) ∙ e in let t : true ≡ false = w.if-is_some.ensures ∙ ap is_some v in cc)
+      | then-is_some-via-else-is_some+then-is_some-2 w ↦ (
+          let s = some_from w.next-else-is_some.result (sym w.if-is_some-2.ensures) in
+          let z = yields_some y.0 y.2 w.next-else-is_some.result s.0 w.next-else-is_some.new.self s.1 w.next-else-is_some.ensures.steps in
+          calm_two a k l y.0 (sym (live_filter a k) ∙ y.1) s.0.now z.0 z.1)
+    ]
 
-pub returns-else-first_live-clause : goal.returns-else-first_live-clause
-returns-else-first_live-clause c =
+pub returns : goal.returns
+returns c =
     let a = c.args.values.now in
     let k = c.args.clause.now in
-    let i = c.first_live-first.result in
-    let x = get_or k i (pos 0) in
-    let f : SFits w32 x = search rules in
-    let l : i < length k = omega (arith, c.first_live-first.ensures.high) in (
-      c.first_live-first.ensures.passed ∙ live_stands a k i l (c.first_live-first.ensures.stands l) ∙ ap (λ z. x ∷ z) (c.first_live.ensures.passed ∙ live_end a k c.first_live.result c.if-first_live-clause.false) ∙ ap (λ (z : ℤ). z ∷ []) (sym (to_z-of_z w32 x f)),
-      sym c.in-Open.ensures,
+    let l = c.in-Some.lit.now in
+    let f : SFits w32 l = search rules in
+    let y = yields_some (filter (lives a) k) (YieldsList-from_filter _ (lives a) (YieldsList-at c.filter-live.ensures.source (YieldsList-from_slice k cc)) c.filter-live.ensures.closure (λ x b q k. search (rules, tests))) c.next.result c.in-Some.lit c.next.new.self c.in-Some.is c.next.ensures.steps in
+    let z = yields_none y.0 y.2 c.next-else-is_some.result c.next-else-is_some.new.self (none_from _ (sym c.if-is_some-2.ensures)) c.next-else-is_some.ensures.steps in (
+      sym (live_filter a k) ∙ y.1 ∙ ap (λ z. l ∷ z) z ∙ ap (λ z. z ∷ []) (sym (to_z-of_z w32 l f)),
+      sym c.value_of.ensures ∙ none_from _ (sym c.if-is_some.ensures),
     )

@@ -3,7 +3,7 @@ use Rattle.refusals.specs.Limits.{most_variables}
 use Rattle.clause_store.specs.Made.{stood_of}
 use Rattle.forcing.specs.Boards.{assigned, trailed}
 use Rattle.propagation.proofs.Steps.{Come}
-use Rattle.propagation.proofs.Turning.{Turning}
+use Rattle.propagation.proofs.Turning.{Turning, depth}
 use Rattle.propagation.specs.Chains.{Leads}
 use Rattle.propagation.specs.Made.{chains}
 use Rattle.propagation.specs.Waits.{Awake, NoneElse, Ready}
@@ -24,8 +24,7 @@ invariant-chain l =
     Turning (stood_of l.store).held (chains l.index) (assigned l.initial.board) (trailed l.initial.board) l.from l.initial.link
     → Come (stood_of l.store).held (assigned l.initial.board) (trailed l.initial.board) (assigned l.board) (trailed l.board)
     × (l.from ≤ length (trailed l.board))
-    × (l.link ≤ length (vec_items l.index.next))
-    × Awake (stood_of l.store).held (assigned l.board) (trailed l.board) l.from (λ i. Leads (vec_items l.index.next) (vec_items l.index.owner) l.link i)
+    × Awake (stood_of l.store).held (assigned l.board) (trailed l.board) l.from (λ i. Leads (vec_items l.index.entries) l.link i)
 
 abbrev pub decreases-chain : goal.decreases-chain
-decreases-chain l = l.link
+decreases-chain l = depth l.link

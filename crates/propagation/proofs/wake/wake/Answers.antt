@@ -1,93 +1,64 @@
-use Rattle.std.proofs.Common.{◌≡◌, ℕ, ◌+◌, ◌<◌, List, [], ◌∷◌, length, get_or, set, ℤ, sym, ap, ◌∙◌, subst, arith, w32, SFits, rules}
+use Rattle.std.proofs.Common.{◌≡◌, ℕ, [], ◌∷◌, length, get_or, None, sym, ap, ◌∙◌, subst, arith, w32, SFits, rules}
 use Rattle.std.proofs.lemmas.Int.{to_z-of_z}
+use Rattle.std.proofs.lemmas.Iterator.Consumers.{YieldsList-from_first, YieldsList-turn, YieldsList-end}
+use Rattle.std.proofs.lemmas.List.{length_push, get_or_default}
 use Rattle.holder.specs.Widest.{variable}
 use Rattle.clause_store.specs.Made.{stood_of}
-use Rattle.trials.specs.declared.value.Value.{Value}
-use Rattle.trials.specs.declared.value.Value.TheVariants.{Open}
 use Rattle.trials.specs.Values.{value, sign}
 use Rattle.trials.specs.Exist.{Within}
-use Rattle.trials.specs.Forcing.{live, Forced, Calm}
+use Rattle.trials.specs.Forcing.{live, Calm}
 use Rattle.forcing.specs.Boards.{assigned, trailed}
 use Rattle.forcing.proofs.Backs.{back_within}
-use Rattle.forcing.proofs.Puts.{put_done}
-use Rattle.propagation.proofs.Steps.{Come, come_none, come_more, forced_open, forced_set, forced_in}
-use Rattle.propagation.proofs.Waiting.{forced_calm}
-use Rattle.propagation.proofs.Watching.{WatchedTo, watched_calm, watched_forced, watched_all}
+use Rattle.propagation.proofs.Steps.{come_none}
+use Rattle.propagation.proofs.Puts.{judged, step}
+use Rattle.propagation.proofs.Watching.{watched_calm, watched_all}
 use Rattle.propagation.proofs.wake.wake.Goals as goal
 
 pub clauses-init : goal.clauses-init
-clauses-init c wi =
-    let cs = (stood_of c.args.store.now).held in
-    let a = assigned c.args.board.now in
-    let ts = trailed c.args.board.now in
-    (come_none cs a ts, λ k h. absurd (let z : ⊥ = omega arith in z))
+clauses-init c wi = (come_none (stood_of c.args.store.now).held (assigned c.args.board.now) (trailed c.args.board.now), λ k h. absurd (let z : ⊥ = omega arith in z))
 
 pub clauses-preserved : goal.clauses-preserved
 clauses-preserved c wi =
     let cs = (stood_of c.args.store.now).held in
-    let a = assigned c.args.board.now in
     let ts = trailed c.args.board.now in
     let b = assigned c.clauses.board in
-    let us = trailed c.clauses.board in
-    let i = c.clauses.next in
-    let held : i < length cs = omega (arith, c.count-count.ensures, c.clauses-test.true) in
-    let vals = c.values.ensures in
-    let cl = c.clause-clause.ensures in
-    let k : Calm b (get_or cs i []) = subst (λ (z : List ℤ). Calm b z) cl (subst (λ (z : List Value). Calm z c.clause-clause.result.now) vals c.in-Calm.ensures) in
-    ((c.clauses.invariant wi).0, watched_calm cs b us (length ts) i k (c.clauses.invariant wi).1)
+    let n = length c.clauses.yielded in
+    let t = YieldsList-turn (YieldsList-from_first (λ y. y.now) (λ left. left) cs (c.into_iter-clause-iterator.ensures.into_iter_gives ∙ c.clauses-clause-items.ensures.value)) c.clauses.yielded _ c.clauses.yielded_by _ _ c.in-Some.clause c.in-Some.is c.next.ensures.steps in
+    let at : c.in-Some.clause.now ≡ get_or cs n [] = t.1 ∙ get_or_default cs n c.in-Some.clause.now [] t.0 in
+    let m = c.clauses.invariant wi in
+    (m.0, watched_calm cs b (trailed c.clauses.board) (length ts) n _ (length_push c.clauses.yielded c.in-Some.clause) (judged Calm c.values.ensures at c.in-Calm.ensures) m.1)
 
 pub clauses-preserved-in-Forces : goal.clauses-preserved-in-Forces
 clauses-preserved-in-Forces c wi =
     let cs = (stood_of c.args.store.now).held in
-    let a = assigned c.args.board.now in
     let ts = trailed c.args.board.now in
     let b = assigned c.clauses.board in
-    let us = trailed c.clauses.board in
-    let i = c.clauses.next in
-    let held : i < length cs = omega (arith, c.count-count.ensures, c.clauses-test.true) in
-    let vals = c.values.ensures in
-    let cl = c.clause-clause.ensures in
+    let n = length c.clauses.yielded in
+    let t = YieldsList-turn (YieldsList-from_first (λ y. y.now) (λ left. left) cs (c.into_iter-clause-iterator.ensures.into_iter_gives ∙ c.clauses-clause-items.ensures.value)) c.clauses.yielded _ c.clauses.yielded_by _ _ c.in-Some.clause c.in-Some.is c.next.ensures.steps in
+    let at : c.in-Some.clause.now ≡ get_or cs n [] = t.1 ∙ get_or_default cs n c.in-Some.clause.now [] t.0 in
+    let m = c.clauses.invariant wi in
     let l = c.in-Forces.lit in
     let fits : SFits w32 l = search rules in
-    let n = c.variable.ensures ∙ ap variable (to_z-of_z w32 l fits) in
-    let sg = c.sign.ensures ∙ ap sign (to_z-of_z w32 l fits) in
-    let r = c.in-Forces.ensures in
-    let alone : live b (get_or cs i []) ≡ l ∷ [] = ap (λ (z : List ℤ). live b z) (sym cl) ∙ ap (λ (z : List Value). live z c.clause-clause.result.now) (sym vals) ∙ r.0 in
-    let opened : value b l ≡ Open = ap (λ (z : List Value). value z l) (sym vals) ∙ r.1 in
-    let f : Forced cs b l = record { clause = i; held = held; alone = alone; opened = opened } in
-    let w : Within (length b) cs = subst (λ (z : ℕ). Within z cs) (sym (c.clauses.invariant wi).0.back.long) wi in
-    let v = c.variable.result in
-    let x = c.sign.result in
-    let moved = come_more cs b l f v x n sg a ts us (c.clauses.invariant wi).0 in
-    let k = forced_calm b (get_or cs i []) l v x alone opened n sg (forced_in cs b l f v x n sg w) in
-    let all = watched_forced cs b us (length ts) i v x (forced_open cs b l f v x n sg) (back_within a ts b us (c.clauses.invariant wi).0.back) k (c.clauses.invariant wi).1 in
-    let done = put_done b v x us (assigned c.put.new.self) (trailed c.put.new.self) c.put.ensures (forced_in cs b l f v x n sg w) (forced_open cs b l f v x n sg) (forced_set cs b l f v x n sg) in
-    let eb = sym done.0 in
-    let eu = sym done.1 in (
-      subst (λ (z : List Value). Come cs a ts z (trailed c.put.new.self)) eb (subst (λ (z : List ℕ). Come cs a ts (set b v x) z) eu moved),
-      subst (λ (z : List Value). WatchedTo cs z (trailed c.put.new.self) (length ts) (i + 1)) eb (subst (λ (z : List ℕ). WatchedTo cs (set b v x) z (length ts) (i + 1)) eu all),
+    let w : Within (length b) cs = subst (λ (z : ℕ). Within z cs) (sym m.0.back.long) wi in
+    let s = step cs b (trailed c.clauses.board) n l c.variable.result c.sign.result w t.0 (judged (λ a k. (live a k ≡ l ∷ []) × (value a l ≡ None)) c.values.ensures at c.in-Forces.ensures) (c.variable.ensures ∙ ap variable (to_z-of_z w32 l fits)) (c.sign.ensures ∙ ap sign (to_z-of_z w32 l fits)) _ _ c.put.ensures in (
+      s.come _ _ m.0,
+      watched_calm cs _ _ (length ts) n _ (length_push c.clauses.yielded c.in-Some.clause) s.calm (λ i h. s.kept (get_or cs i []) (length ts) ⊥ (back_within _ ts _ _ m.0.back) (m.1 i h)),
     )
 
 pub returns-in-Dead : goal.returns-in-Dead
 returns-in-Dead c wi =
     let cs = (stood_of c.args.store.now).held in
-    let a = assigned c.args.board.now in
     let ts = trailed c.args.board.now in
     let b = assigned c.clauses.board in
-    let us = trailed c.clauses.board in
-    let i = c.clauses.next in
-    let held : i < length cs = omega (arith, c.count-count.ensures, c.clauses-test.true) in
-    let vals = c.values.ensures in
-    let cl = c.clause-clause.ensures in
-    let gone : live b (get_or cs i []) ≡ [] = ap (λ (z : List ℤ). live b z) (sym cl) ∙ ap (λ (z : List Value). live z c.clause-clause.result.now) (sym vals) ∙ c.in-Dead.ensures in
-    record { run = (c.clauses.invariant wi).0.run; back = (c.clauses.invariant wi).0.back; end = record { clause = i; held = held; dead = gone } }
+    let n = length c.clauses.yielded in
+    let t = YieldsList-turn (YieldsList-from_first (λ y. y.now) (λ left. left) cs (c.into_iter-clause-iterator.ensures.into_iter_gives ∙ c.clauses-clause-items.ensures.value)) c.clauses.yielded _ c.clauses.yielded_by _ _ c.in-Some.clause c.in-Some.is c.next.ensures.steps in
+    let at : c.in-Some.clause.now ≡ get_or cs n [] = t.1 ∙ get_or_default cs n c.in-Some.clause.now [] t.0 in
+    let m = c.clauses.invariant wi in
+    record { run = m.0.run; back = m.0.back; end = record { clause = n; held = t.0; dead = judged (λ a k. live a k ≡ []) c.values.ensures at c.in-Dead.ensures } }
 
 pub returns : goal.returns
 returns c wi =
     let cs = (stood_of c.args.store.now).held in
-    let a = assigned c.args.board.now in
-    let ts = trailed c.args.board.now in
-    let b = assigned c.clauses.board in
-    let us = trailed c.clauses.board in
-    let i = c.clauses.next in
-    record { run = (c.clauses.invariant wi).0.run; back = (c.clauses.invariant wi).0.back; end = watched_all cs b us (length ts) i (omega (arith, c.count-count.ensures, c.clauses-test.false)) (c.clauses.invariant wi).1 }
+    let e = YieldsList-end (YieldsList-from_first (λ y. y.now) (λ left. left) cs (c.into_iter-clause-iterator.ensures.into_iter_gives ∙ c.clauses-clause-items.ensures.value)) c.clauses.yielded _ c.clauses.yielded_by _ _ c.in-None.is c.next.ensures.steps in
+    let m = c.clauses.invariant wi in
+    record { run = m.0.run; back = m.0.back; end = watched_all cs _ _ (length (trailed c.args.board.now)) (length c.clauses.yielded) (omega (arith, e.1)) m.1 }

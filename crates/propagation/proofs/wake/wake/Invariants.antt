@@ -1,4 +1,4 @@
-use Rattle.std.proofs.Common.{◌-◌, length}
+use Rattle.std.proofs.Common.{length}
 use Rattle.clause_store.specs.Made.{stood_of}
 use Rattle.trials.specs.Exist.{Within}
 use Rattle.forcing.specs.Boards.{assigned, trailed}
@@ -10,7 +10,4 @@ abbrev pub invariant-clauses : goal.invariant-clauses
 invariant-clauses l =
     Within (length (assigned l.initial.board)) (stood_of l.store).held
     → Come (stood_of l.store).held (assigned l.initial.board) (trailed l.initial.board) (assigned l.board) (trailed l.board)
-    × WatchedTo (stood_of l.store).held (assigned l.board) (trailed l.board) (length (trailed l.initial.board)) l.next
-
-abbrev pub decreases-clauses : goal.decreases-clauses
-decreases-clauses l = l.count - l.next
+    × WatchedTo (stood_of l.store).held (assigned l.board) (trailed l.board) (length (trailed l.initial.board)) (length l.yielded)

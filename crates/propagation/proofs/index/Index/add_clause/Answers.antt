@@ -1,10 +1,10 @@
-use Rattle.std.proofs.Common.{◌≡◌, ◌<◌, length, get_or, take, ℤ, pos, vec_items, sym, refl, ap, ◌∙◌, arith, length-take, w32, SFits, rules}
+use Rattle.std.proofs.Common.{◌≡◌, length, get_or, take, ℤ, pos, vec_items, sym, refl, ap, ◌∙◌, arith, length-take, w32, SFits, rules}
 use Rattle.std.proofs.lemmas.Int.{to_z-of_z}
 use Rattle.std.proofs.lemmas.List.{take_more, take_all}
 use Rattle.holder.specs.Widest.{variable}
 use Rattle.propagation.specs.Chains.{added, added_clause}
 use Rattle.propagation.specs.Made.{chains}
-use Rattle.propagation.proofs.Chained.{clause_gains, clause_push, clause_none, clause_long, within_take, within_at}
+use Rattle.propagation.proofs.Chained.{clause_heads, clause_push, clause_none, clause_long, within_at}
 use Rattle.propagation.proofs.index.Index.add_clause.Goals as goal
 
 pub loop-lit-init : goal.loop-lit-init
@@ -17,20 +17,14 @@ add-requires c =
     let k = c.loop-lit.lit-index in
     let x = get_or xs k (pos 0) in
     let f : SFits w32 x = search rules in
-    let n = length (vec_items s.positive) in
-    let w : variable x < n = within_at n xs c.requires.within k c.loop-lit-test.true in
+    let w = within_at (length (vec_items s.heads)) xs c.requires.within k c.loop-lit-test.true in
     let e : variable x ≡ variable (mir.Val.to_z w32 (mir.Val.of_z w32 x)) = sym (ap variable (to_z-of_z w32 x f)) in
-    let g = (clause_gains n (chains s) (take k xs) c.args.i c.requires.good (within_take n xs k c.requires.within)).good in
     let h = c.loop-lit.invariant.0 in
     let m = c.loop-lit.invariant.1 in
-    let long = clause_long (chains s) (take k xs) c.args.i in
     let t = length-take k xs in
-    let o = g.paired in
     record {
-      positive = omega (arith, ap (λ z. length z.positive) h, g.long_positive);
-      negative = omega (arith, ap (λ z. length z.negative) h, g.long_negative);
-      next = omega (arith, ap (λ z. length z.next) h, c.requires.room, c.loop-lit-test.true);
-      owner = omega (arith, ap (λ z. length z.owner) h, c.requires.room, c.loop-lit-test.true);
+      listed = omega (arith, ap (λ z. length z.heads) h, clause_heads (chains s) (take k xs) c.args.i);
+      room = omega (arith, ap (λ z. length z.entries) h, clause_long (chains s) (take k xs) c.args.i, c.requires.room, c.loop-lit-test.true);
     }
 
 pub loop-lit-preserved : goal.loop-lit-preserved
