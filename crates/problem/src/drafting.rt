@@ -11,7 +11,7 @@ ghost use Rattle.problem.specs.Tables.{axioms_drafted, rules_drafted, goals_draf
 
 use crate::drafts::{AxiomDraft, GoalDraft, Problem, RuleDraft, Unfinished};
 use crate::given::{GivenAxiom, GivenGoal, GivenRule};
-use crate::judging::{judge_shape, judge_start};
+use crate::judging::{judge_lists, judge_shape, judge_start};
 use crate::lists::{all_below, in_order};
 use crate::parts::{Axiom, FactList, Goal, Rule};
 use refusals::limits::{MOST_AXIOMS, MOST_GOALS, MOST_RULES};
@@ -117,10 +117,9 @@ impl RuleDraft {
     pub fn judge_rule(&self, given: GivenRule<'_>) -> Result<(), Refusal>
         ensures { result_err result ≡ rule_shape (rules_drafted self.now) (given_rule given.entry) }
     {
-        judge_shape(
-            given.is_in(self.ground.facts),
-            given.is_in_order(),
-            given.is_short(),
+        judge_lists(
+            &[given.needed, given.forbidden, given.left],
+            self.ground.facts,
             self.rules.len() < MOST_RULES,
         )
     }
@@ -156,10 +155,9 @@ impl GoalDraft {
     pub fn judge_goal(&self, given: GivenGoal<'_>) -> Result<(), Refusal>
         ensures { result_err result ≡ goal_shape (goals_drafted self.now) (given_goal given.entry) }
     {
-        judge_shape(
-            given.is_in(self.ground.ground.facts),
-            given.is_in_order(),
-            given.is_short(),
+        judge_lists(
+            &[given.wanted, given.unwanted],
+            self.ground.ground.facts,
             self.goals.len() < MOST_GOALS,
         )
     }

@@ -1,9 +1,10 @@
 // What is wrong with a record: the first that applies, in the order of the numbers.
 ghost use Rattle.std.specs.Prelude.{◌≡◌};
 ghost use Rattle.std.specs.Result.{result_err};
-ghost use Rattle.problem.specs.Faults.{start_fault, shape};
+ghost use Rattle.problem.specs.Lists.{every, fact_of, rises};
+ghost use Rattle.problem.specs.Faults.{start_fault, shape, short};
 
-use crate::lists::{all_facts, in_order, is_fact};
+use crate::lists::{all_facts, all_in_order, all_of_facts, all_short, in_order, is_fact};
 use refusals::limits::MOST_FACTS;
 use refusals::refusal::Refusal;
 
@@ -41,4 +42,16 @@ pub(crate) fn judge_shape(
         return Err(Refusal::TableFull);
     }
     Ok(())
+}
+
+// What is wrong with several lists of one record, and by the table's room.
+pub(crate) fn judge_lists(lists: &[&[u16]], facts: u16, room: bool) -> Result<(), Refusal>
+    ensures { result_err result ≡ shape (every (λ l. every (fact_of facts) l.now) lists.now) (every (λ l. rises 0 l.now) lists.now) (every (λ l. short l.now) lists.now) room }
+{
+    judge_shape(
+        all_of_facts(lists, facts),
+        all_in_order(lists),
+        all_short(lists),
+        room,
+    )
 }

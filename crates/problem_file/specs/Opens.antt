@@ -10,6 +10,9 @@ use Rattle.problem.specs.declared.drafts.AxiomDraft.{AxiomDraft}
 use Rattle.file_format.specs.Fields.{Found, ended, short, wrong, field}
 use Rattle.file_format.specs.Reading.{opened}
 use Rattle.problem_file.specs.Layers.{layer_of}
+use Rattle.problem_file.specs.Says.{FieldSays}
+use Rattle.problem_file.specs.declared.field.Field.{Field}
+use Rattle.problem_file.specs.declared.faults.FieldFault.{FieldFault}
 use Rattle.problem_file.specs.declared.faults.RecordFault.{RecordFault}
 
 -- why a field that is owed is refused, where a value is judged by `due`
@@ -18,6 +21,11 @@ owed due ended = Some Missing
 owed due short = Some CutShort
 owed due wrong = Some WrongTag
 owed due (field t v bs) = due v
+
+-- of a field that is owed, and the place afterwards
+abbrev pub OwedSays : List ℕ → ℕ → Found → Result Field FieldFault → ℕ → Type 0
+OwedSays file at found (Ok f) after = FieldSays file at found (Ok (Some f)) after
+OwedSays file at found (Err e) after = (owed (λ v. None) found ≡ Some e.refusal) × (e.at ≡ at) × (after ≡ at)
 
 -- the number of facts has one byte, and is in range
 abbrev pub facts_due : List ℕ → Option Refusal

@@ -2,10 +2,10 @@
 ghost use Rattle.std.specs.Prelude.{◌≡◌, drop};
 ghost use Rattle.file_format.specs.Fields.{next_field};
 ghost use Rattle.problem_file.specs.Says.{tag_number};
-ghost use Rattle.problem_file.specs.Opens.{FactsIn, FactsSay, StartIn, StartSays};
+ghost use Rattle.problem_file.specs.Opens.{OwedSays, FactsIn, FactsSay, StartIn, StartSays};
 
 use crate::faults::{FieldFault, RecordFault};
-use crate::field::Tag;
+use crate::field::{Field, Tag};
 use crate::file::ProblemFile;
 use crate::place::{Guard, Place};
 use crate::records::facts;
@@ -37,37 +37,37 @@ fn opened(heap: Global, facts_count: u16, value: &[u8]) -> Result<AxiomDraft, Re
     AxiomDraft::open(heap, facts_count, &start)
 }
 
-impl ProblemFile<'_> {
+impl<'a> ProblemFile<'a> {
+    // The field that is owed next.
+    fn owed_field(self, place: &mut Place, tag: Tag) -> Result<Field<'a>, FieldFault>
+        ensures { OwedSays self.entry.bytes.now place.old.at (next_field (tag_number tag) (tag_number tag) (drop place.old.at self.entry.bytes.now)) result place.new.at }
+    {
+        let at = place.at;
+        self.next_field(place, tag, tag)?.ok_or(FieldFault {
+            refusal: Refusal::Missing,
+            at,
+        })
+    }
+
     // The number of facts.
     pub fn next_facts(self, place: &mut Place) -> Result<u16, RecordFault>
         ensures { FactsSay self.entry.bytes.now place.old.at (next_field 1 1 (drop place.old.at self.entry.bytes.now)) result place.new.at }
     {
         let at = place.at;
         let mut guard = Guard::over(place);
-        let field = self
-            .next_field(guard.place, Tag::Facts, Tag::Facts)?
-            .ok_or(FieldFault {
-                refusal: Refusal::Missing,
-                at,
-            })?;
+        let field = self.owed_field(guard.place, Tag::Facts)?;
         let facts = facts_in(field.value()).map_err(|refusal| RecordFault::new(refusal, at))?;
         guard.accept();
         Ok(facts)
     }
 
-    // The start list, over so many facts: it opens the draft. One function for this and `next_facts` would take the
-    // reading of the value as a closure, with a contract over what that answers, and be longer than the two.
+    // The start list, over so many facts: it opens the draft.
     pub fn next_start(self, place: &mut Place, facts_count: u16) -> Result<AxiomDraft, RecordFault>
         ensures { StartSays self.entry.bytes.now place.old.at facts_count (next_field 2 2 (drop place.old.at self.entry.bytes.now)) result place.new.at }
     {
         let at = place.at;
         let mut guard = Guard::over(place);
-        let field = self
-            .next_field(guard.place, Tag::Start, Tag::Start)?
-            .ok_or(FieldFault {
-                refusal: Refusal::Missing,
-                at,
-            })?;
+        let field = self.owed_field(guard.place, Tag::Start)?;
         let drafted = opened(self.heap, facts_count, field.value());
         let draft = drafted.map_err(|refusal| RecordFault::new(refusal, at))?;
         guard.accept();

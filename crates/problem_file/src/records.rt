@@ -16,6 +16,8 @@ pub struct Placed<R> {
     pub at: usize,
 }
 
+// Owned, as the lists of a GivenAxiom are lent: two types, as String and &str, since a parameter for the list would stand
+// in every clause. So are the two below.
 #[derive(Drop)]
 pub struct AxiomLists {
     pub premises: Vec<u16>,

@@ -38,6 +38,7 @@ impl Index {
 pub fn propagate(board: &mut Board, store: &Store, index: &Index, start: usize) -> bool
     ensures { Ready (stood_of store.now).held (chains index.now) (assigned board.old) (trailed board.old) start → ForcedTo (stood_of store.now).held (assigned board.old) (trailed board.old) result (assigned board.new) (trailed board.new) }
 {
+    // By number, since the trail grows while the loop goes through it.
     let mut from = start;
     'queue: while let Some(v) = board.set_at(from) {
         from += 1;
