@@ -18,7 +18,7 @@ use refusals::limits::{MOST_AXIOMS, MOST_GOALS, MOST_RULES};
 use refusals::refusal::Refusal;
 use std::alloc::Global;
 
-// Copies are made by functions of their own: TryFrom is passed no memory.
+// Copies are made by functions of their own: TryFrom is passed no memory, and can presuppose nothing.
 impl FactList {
     fn copied(heap: Global, list: &[u16]) -> Result<FactList, Refusal>
         requires { rises 0 list.now ≡ true }

@@ -4,7 +4,7 @@ ghost use Rattle.std.specs.Result.{result_err};
 ghost use Rattle.problem.specs.Lists.{every, fact_of, rises};
 ghost use Rattle.problem.specs.Faults.{start_fault, shape, short};
 
-use crate::lists::{all_facts, all_in_order, all_of_facts, all_short, in_order, is_fact};
+use crate::lists::{all_facts, in_order, is_fact, is_short};
 use refusals::limits::MOST_FACTS;
 use refusals::refusal::Refusal;
 
@@ -48,10 +48,8 @@ pub(crate) fn judge_shape(
 pub(crate) fn judge_lists(lists: &[&[u16]], facts: u16, room: bool) -> Result<(), Refusal>
     ensures { result_err result ≡ shape (every (λ l. every (fact_of facts) l.now) lists.now) (every (λ l. rises 0 l.now) lists.now) (every (λ l. short l.now) lists.now) room }
 {
-    judge_shape(
-        all_of_facts(lists, facts),
-        all_in_order(lists),
-        all_short(lists),
-        room,
-    )
+    let in_range = lists.iter().all(|list| all_facts(list, facts));
+    let rising = lists.iter().all(|list| in_order(list));
+    let lengths = lists.iter().all(|list| is_short(list));
+    judge_shape(in_range, rising, lengths, room)
 }
