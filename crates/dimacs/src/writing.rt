@@ -18,7 +18,7 @@ fn write_clause<H: Holder>(
     requires { H.orderly holder.now → (i < length (H.stood holder.now).held) × (size (H.stood holder.now).held ≤ most) }
     ensures { H.orderly holder.now → OnOk result (string_bytes out.new ≡ string_bytes out.old ++ clause_text (slice_index_or (H.stood holder.now).held i [])) }
 {
-    // A holder is read by numbers, so the loop goes over them.
+    // A holder is read by numbers, so the loop goes over them; `map_while` would have to be told where they end as well.
     for j in 0..most {
         let Ok(l) = holder.literal(i, j) else {
             break;
@@ -39,7 +39,7 @@ fn write_clauses<H: Holder>(
     requires { H.orderly holder.now → (n ≡ length (H.stood holder.now).held) × (size (H.stood holder.now).held ≤ most) }
     ensures { H.orderly holder.now → OnOk result (string_bytes out.new ≡ string_bytes out.old ++ joined clause_text (H.stood holder.now).held) }
 {
-    // Over numbers here too.
+    // Its clauses are told by number too.
     for i in 0..n {
         write_clause(out, holder, i, most)?;
     }

@@ -16,13 +16,14 @@ use std::alloc::Global;
 
 // The draft with all records of its kind that come next.
 fn filled<'a, D: Drafting<'a>>(
+    heap: Global,
     file: ProblemFile<'a>,
     place: &mut Place,
     mut draft: D,
 ) -> Result<D, ProblemFault>
     ensures { TableSays D.drafted file.entry.bytes.now (tag_number D.TAG) (D.drafted draft) place.old.at result place.new.at }
 {
-    while let Some(_) = file.next_record(place, &mut draft)? {}
+    while let Some(_) = file.next_record(heap, place, &mut draft)? {}
     Ok(draft)
 }
 
@@ -40,12 +41,12 @@ fn finished(draft: GoalDraft, at: usize) -> Result<Problem, ProblemFault>
 pub fn read_problem(heap: Global, file: &[u8]) -> Result<Problem, ProblemFault>
     ensures { FileSays (read file.now) result }
 {
-    let file = ProblemFile { heap, bytes: file };
+    let file = ProblemFile { bytes: file };
     let mut place = Place { at: 0 };
     let facts = file.next_facts(&mut place)?;
-    let axioms = file.next_start(&mut place, facts)?;
-    let axioms = filled(file, &mut place, axioms)?;
-    let rules = filled(file, &mut place, axioms.rules(heap))?;
-    let goals = filled(file, &mut place, rules.goals(heap))?;
+    let axioms = file.next_start(heap, &mut place, facts)?;
+    let axioms = filled(heap, file, &mut place, axioms)?;
+    let rules = filled(heap, file, &mut place, axioms.rules(heap))?;
+    let goals = filled(heap, file, &mut place, rules.goals(heap))?;
     finished(goals, place.at)
 }

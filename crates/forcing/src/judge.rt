@@ -15,7 +15,7 @@ pub enum Judgement {
     Calm,
 }
 
-// The value of its variable that makes a literal true.
+// The value of its variable that makes a literal true, as a board takes values.
 pub fn sign(lit: i32) -> Option<bool>
     ensures { result ≡ vals.sign lit }
 {

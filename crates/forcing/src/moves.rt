@@ -8,7 +8,7 @@ use crate::board::Board;
 use refusals::limits::MOST_VARIABLES;
 use std::alloc::{AllocError, Global};
 
-// So many copies, as far as the reserved memory goes.
+// So many copies, as far as the reserved memory goes. The index of propagation is filled by it too.
 pub fn fill<T: Copy>(list: &mut Vec<T>, item: T, count: usize)
     ensures items { list.new.items ≡ replicate (min count (vec_capacity list.old)) item }
     ensures capacity { vec_capacity list.new ≡ vec_capacity list.old }

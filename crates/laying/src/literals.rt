@@ -8,6 +8,7 @@ ghost use Rattle.laying.specs.Written.{lits, value};
 use crate::line::{Line, Literal, Literals};
 use arrayvec::ArrayVec;
 use refusals::limits::MOST_VARIABLES;
+use std::alloc::AllocError;
 
 impl Literal {
     // A variable past the largest counts as the largest, and 0 as 1.
@@ -32,7 +33,7 @@ impl From<Literal> for i32 {
 }
 
 impl Literals {
-    // That variables are true.
+    // That variables are true. A name for each sign, as `is_some` and `is_none` are two.
     pub fn holding(past: u32) -> Literals
         ensures { (result.positive ≡ true) × (result.past ≡ past) }
     {
@@ -57,6 +58,19 @@ impl Literals {
         ensures { 0 < number → self.past + number ≤ most_variables → value result ≡ signed self.positive (self.past + number) }
     {
         Literal::new(self.positive, self.past.saturating_add(number))
+    }
+}
+
+// A copy is asked for, since an ArrayVec is none by itself.
+impl Clone for Line {
+    ghost is_clone = { λ l m. lits m ≡ lits l };
+
+    ghost is_infallible = { λ _. Unit {0} };
+
+    fn clone(&self) -> Result<Line, AllocError> {
+        Ok(Line {
+            literals: self.literals.clone()?,
+        })
     }
 }
 

@@ -3,6 +3,22 @@
 
 use anyhow::anyhow;
 use pages::printing::page_text;
+use std::alloc::Global;
+
+fn digit(b: u8) -> u8 {
+    if b <= b'9' { b & 15 } else { (b & 15) + 9 }
+}
+
+// The bytes that hexadecimal digits name. Not by the crate hex, which refuses lines that this program reads.
+fn bytes(heap: Global, digits: &[u8]) -> anyhow::Result<Vec<u8>> {
+    let mut all = Vec::new(heap);
+    for pair in digits.chunks_exact(2) {
+        if let [high, low] = pair {
+            all.push((digit(*high) & 15) * 16 + (digit(*low) & 15))?;
+        }
+    }
+    Ok(all)
+}
 
 fn run(rt: &HostRuntime) -> anyhow::Result<()> {
     let heap = rt.alloc();
@@ -11,7 +27,7 @@ fn run(rt: &HostRuntime) -> anyhow::Result<()> {
         let (name, digits) = line
             .split_once(' ')
             .ok_or_else(|| anyhow!("a line has no space"))?;
-        let input = hex::decode(heap, digits)?;
+        let input = bytes(heap, digits.as_bytes())?;
         let text = page_text(heap, &input).map_err(|_| anyhow!("out of memory"))?;
         rt.println(name)?;
         rt.print(text.as_str())?;

@@ -91,7 +91,7 @@ fn page(heap: Global, input: &[u8]) -> Result<String, Refused>
     page_of_file(heap, Depth::try_from(u32::from(*depth))?, file)
 }
 
-// `refused n`, or `refused n at b`; there is no line for want of memory.
+// `refused n`, or `refused n at b`. Not by Display, which would have to print something for want of memory, that has no line.
 fn line(heap: Global, refused: Refused) -> Result<String, AllocError>
     ensures { IfOk result (λ t. (is_some (number_of refused.refusal) ≡ true) × (string_bytes t ≡ told refused.refusal refused.at)) }
 {

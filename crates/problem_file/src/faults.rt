@@ -1,4 +1,5 @@
-// A fault type for each layer of reading, carried upward by `?`: refusal, layer and byte stay.
+// A fault type for each layer of reading, carried upward by `?`: refusal, layer and byte stay. Those of records and of problems
+// have the same fields and are two types, since a call's type says how far up a fault has come.
 ghost use Rattle.std.specs.Prelude.{◌≡◌};
 ghost use Rattle.problem_file.specs.Layers.{of_field, of_record};
 

@@ -11,7 +11,7 @@ use refusals::refusal::Refusal;
 // The kinds of fields, in the order in which they stand in a file.
 #[derive(Clone, Copy, Debug, PartialEq, Eq, PartialOrd, Ord)]
 pub enum Tag {
-    Facts = 1,
+    Facts,
     Start,
     Axiom,
     Rule,

@@ -1,10 +1,7 @@
 // A problem file.
 
-use std::alloc::Global;
-
-// The bytes of a file, and the memory that its records are read into.
-#[derive(Clone, Copy, Debug)]
+// The bytes of a file, which are only read. Where a reader stands is a record of its own, so that a guard can put it back.
+#[derive(Clone, Copy, Debug, PartialEq, Eq)]
 pub struct ProblemFile<'a> {
-    pub heap: Global,
     pub bytes: &'a [u8],
 }

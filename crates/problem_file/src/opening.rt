@@ -61,14 +61,20 @@ impl<'a> ProblemFile<'a> {
         Ok(facts)
     }
 
-    // The start list, over so many facts: it opens the draft.
-    pub fn next_start(self, place: &mut Place, facts_count: u16) -> Result<AxiomDraft, RecordFault>
+    // The start list, over so many facts: it opens the draft. One function for this and `next_facts` would take the reading of
+    // the value as a closure, with what it answers in the contract, and be longer than the two.
+    pub fn next_start(
+        self,
+        heap: Global,
+        place: &mut Place,
+        facts_count: u16,
+    ) -> Result<AxiomDraft, RecordFault>
         ensures { StartSays self.entry.bytes.now place.old.at facts_count (next_field 2 2 (drop place.old.at self.entry.bytes.now)) result place.new.at }
     {
         let at = place.at;
         let mut guard = Guard::over(place);
         let field = self.owed_field(guard.place, Tag::Start)?;
-        let drafted = opened(self.heap, facts_count, field.value());
+        let drafted = opened(heap, facts_count, field.value());
         let draft = drafted.map_err(|refusal| RecordFault::new(refusal, at))?;
         guard.accept();
         Ok(draft)

@@ -11,11 +11,13 @@ use crate::field::Tag;
 use crate::file::ProblemFile;
 use crate::place::{Guard, Place};
 use crate::records::Placed;
+use std::alloc::Global;
 
 impl<'a> ProblemFile<'a> {
     // The next record of the draft's kind, judged by itself; the place is past its field.
     fn judged_record<D: Drafting<'a>>(
         self,
+        heap: Global,
         place: &mut Place,
         draft: &D,
     ) -> Result<Option<Placed<D::Record>>, RecordFault>
@@ -25,7 +27,7 @@ impl<'a> ProblemFile<'a> {
         match self.next_field(place, D::TAG, Tag::Goal)? {
             Some(field) if field.tag() == D::TAG => {
                 let record = draft
-                    .read(self.heap, field.value())
+                    .read(heap, field.value())
                     .map_err(|refusal| RecordFault::new(refusal, at))?;
                 Ok(Some(Placed { record, at }))
             }
@@ -36,17 +38,18 @@ impl<'a> ProblemFile<'a> {
     // The next record of the draft's kind, taken by the draft; nothing where another kind of field, or the end, comes next.
     pub fn next_record<D: Drafting<'a>>(
         self,
+        heap: Global,
         place: &mut Place,
         draft: &mut D,
     ) -> Result<Option<Placed<D::Record>>, ProblemFault>
         ensures { Takes D.holds self.entry.bytes.now place.old.at (next_record (tag_number D.TAG) (D.drafted draft.old) (next_field (tag_number D.TAG) 5 (drop place.old.at self.entry.bytes.now))) (D.drafted draft.old) result (D.drafted draft.new) place.new.at }
     {
         let mut guard = Guard::over(place);
-        let Some(placed) = self.judged_record(guard.place, draft)? else {
+        let Some(placed) = self.judged_record(heap, guard.place, draft)? else {
             return Ok(None);
         };
         draft
-            .take(self.heap, &placed.record)
+            .take(heap, &placed.record)
             .map_err(|refusal| ProblemFault::new(refusal, placed.at))?;
         guard.accept();
         Ok(Some(placed))

@@ -14,6 +14,7 @@ use forcing::judge::{Judgement, judge, sign};
 pub fn wake(board: &mut Board, store: &Store) -> bool
     ensures { Within (length (assigned board.old)) (stood_of store.now).held → Woken (stood_of store.now).held (assigned board.old) (trailed board.old) result (assigned board.new) (trailed board.new) }
 {
+    // The same choice stands in `propagate`: a function for it would answer whether to go on, for both to ask again.
     'clauses: for clause in store.clauses() {
         match judge(board.values(), clause) {
             Judgement::Dead => return false,
