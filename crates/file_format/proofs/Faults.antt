@@ -1,14 +1,13 @@
 -- No fault is found in a record exactly if it has the properties that a table asks of it. Assumes nothing.
-use Rattle.std.proofs.Common.{◌≡◌, ℕ, ◌+◌, ◌<◌, ◌≤◌, Bool, true, false, ◌&&◌, ltb, ◌↔◌, List, [], ◌∷◌, length, Some, None, Option, refl, arith}
+use Rattle.std.proofs.Common.{◌≡◌, ℕ, ◌+◌, ◌<◌, ◌≤◌, Bool, true, false, ◌↔◌, List, [], ◌∷◌, length, None, Option, arith}
 use Rattle.std.proofs.lemmas.Bool.Decides.{nat_tests}
-use mathlib.Core.Logic.Iff
 use Rattle.refusals.specs.Limits.{most_facts, most_axioms, most_rules, most_goals, longest_list}
 use Rattle.refusals.specs.declared.refusal.Refusal.{Refusal}
 use Rattle.runs.specs.Problems.{Axiom, Rule, Goal, Problem, Each, Rising, Facts, AxiomFacts, RuleFacts, GoalFacts, Spares, removes}
 use Rattle.runs.specs.Steps.{any}
 use Rattle.problem.specs.Lists.{every, fact_of, rises, below}
 use Rattle.problem.specs.Views.{takes_from, bars}
-use Rattle.problem.specs.Faults.{unless, first, shape, start_fault, axiom_fault, goal_fault}
+use Rattle.problem.specs.Faults.{first, shape, start_fault, axiom_fault, goal_fault}
 use Rattle.file_format.specs.Fields.{label_fine}
 use Rattle.file_format.specs.Reading.{labelled_fault}
 
