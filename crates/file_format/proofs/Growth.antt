@@ -39,7 +39,7 @@ module _ (p s : Problem) (v : List ℕ) where
   axiom_added o i e = grind (arith, axiom_is v, an_axiom)
 
   rule_added : (o : Option (Rule × List ℕ)) → rule_in_value v ≡ o → take_rule p o ≡ grown s → Adds p 4 v s
-  rule_added None i e = absurd (cc)
+  rule_added None i e = cc
   rule_added (Some k) i e = let u = unless_is _ _ _ e in subst₂ (Adds p 4) (sym (rule_is v k.0 k.1 i)) u.1 (a_rule k.0 k.1 u.0)
 
   goal_added : (o : Option Goal) → goal_in_value v ≡ o → take_goal p o ≡ grown s → Adds p 5 v s
@@ -58,19 +58,19 @@ taken (a_goal g f) = (omega arith, cc (goal_of g, f))
 -- one field, if what follows it is as claimed
 module _ (q : Problem) (rest : ℕ → Problem → ℕ → List ℕ → Read) (ih : (low : ℕ) (p : Problem) (at : ℕ) (bs : List ℕ) → 3 ≤ low → Bytes bs → rest low p at bs ≡ whole q → Grows q low p bs) where
   value_first : (low t : ℕ) (p : Problem) (at : ℕ) (v bs : List ℕ) → Bytes bs → 3 ≤ low → low ≤ t → t ≤ 5 → (x : Taken) → take_value t p v ≡ x → go_on (λ s. rest t s (at + 3 + length v) bs) at x ≡ whole q → Grows q low p (field_bytes t v ++ bs)
-  value_first low t p at v bs b h k l (refused r) i e = absurd (cc)
+  value_first low t p at v bs b h k l (refused r) i e = cc
   value_first low t p at v bs b h k l (grown s) i e = next k (adds_from p s v t (omega arith) l i) (ih t s (at + 3 + length v) bs (omega arith) b e)
 
   found_first : (low : ℕ) (p : Problem) (at : ℕ) (bs : List ℕ) → 3 ≤ low → Bytes bs → (f : Found) → next_field low 5 bs ≡ f → after rest p at f ≡ whole q → Grows q low p bs
   found_first low p at bs h b ended i e = let none = none_left low 5 bs i in grind (arith, nat_tests, over)
-  found_first low p at bs h b short i e = absurd (cc)
-  found_first low p at bs h b wrong i e = absurd (cc)
+  found_first low p at bs h b short i e = cc
+  found_first low p at bs h b wrong i e = cc
   found_first low p at bs h b (field t v cs) i e =
       let k = field_is low 5 t v cs bs b i in
       subst (Grows q low p) (sym k.0) (value_first low t p at v cs (bytes_after t v cs bs b k.0) h k.1 k.2 (take_value t p v) refl e)
 
 pub grows_from : (q : Problem) (n low : ℕ) (p : Problem) (at : ℕ) (bs : List ℕ) → 3 ≤ low → Bytes bs → fields n low p at bs ≡ whole q → Grows q low p bs
-grows_from q zero low p at bs h b e = absurd (cc)
+grows_from q zero low p at bs h b e = cc
 grows_from q (suc n) low p at bs h b e = found_first q (fields n) (grows_from q n) low p at bs h b (next_field low 5 bs) refl e
 
 -- with as many steps as bytes and one more, all fields are read

@@ -21,7 +21,7 @@ counted_of fs bs = grind (arith, nat_tests, length-append fs bs, take_at fs bs (
 
 -- a value that begins with a counted list, and what follows it
 then_is : {A P : Type 0} (v : List ℕ) (next : List ℕ → List ℕ → Option A) (x : A) → then (counted v) next ≡ Some x → ((fs bs : List ℕ) → v ≡ list_bytes fs ++ bs → next fs bs ≡ Some x → P) → P
-then_is [] next x e k = absurd (cc)
+then_is [] next x e k = cc
 then_is (n ∷ v) next x e k = k (take n v) (drop n v) (grind (arith, nat_tests, length-take-le n v, take-append-drop n v)) (grind arith)
 
 pub axiom_of : (a : Axiom) → axiom_in_value (axiom_value a) ≡ Some a
@@ -58,7 +58,7 @@ pub none_left : (low high : ℕ) (bs : List ℕ) → next_field low high bs ≡ 
 none_left low high bs e = grind arith
 
 pub field_is : (low high t : ℕ) (v rest bs : List ℕ) → Each (λ b. b < 256) bs → next_field low high bs ≡ field t v rest → (bs ≡ field_bytes t v ++ rest) × (low ≤ t) × (t ≤ high)
-field_is low high t v rest [] h e = absurd (cc)
-field_is low high t v rest (s ∷ []) h e = absurd (cc)
-field_is low high t v rest (s ∷ m ∷ []) h e = absurd (cc)
+field_is low high t v rest [] h e = cc
+field_is low high t v rest (s ∷ []) h e = cc
+field_is low high t v rest (s ∷ m ∷ []) h e = cc
 field_is low high t v rest (s ∷ m ∷ l ∷ bs) h e = grind (arith, nat_tests, length-take-le (256 * m + l) bs, take-append-drop (256 * m + l) bs)
