@@ -3,6 +3,5 @@ pub mod Values
 pub mod Growth
 pub mod Opening
 pub mod Fit
-pub mod Forward
-pub mod Backward
+pub mod Laid
 pub mod Acceptance

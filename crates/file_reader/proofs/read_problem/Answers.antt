@@ -1,23 +1,9 @@
 use Rattle.std.proofs.Common.{drop, ◌∙◌}
 use Rattle.std.proofs.lemmas.Result.{err_from_is_err_and}
 use Rattle.problem.specs.Tables.{axioms_drafted, rules_drafted, goals_drafted}
-use Rattle.file_format.specs.Fields.{next_field}
-use Rattle.file_reader.proofs.Opening.{facts_read, facts_faulty, start_faulty, opening_read}
+use Rattle.file_reader.proofs.Opening.{opening_read}
 use Rattle.file_reader.proofs.Steps.{next_table, all_read, fault_is, file_says}
 use Rattle.file_reader.proofs.read_problem.Goals as goal
-
-pub returns-in_err-facts : goal.returns-in_err-facts
-returns-in_err-facts c =
-    let q = err_from_is_err_and c.from_residual.result c.from_residual.ensures.1 in
-    rw (q.1, q.2) (facts_faulty (next_field 1 1 c.args.file.now) c.in_err-facts.field-0.0 c.in_err-facts.ensures.0)
-
-pub returns-in_err-axioms : goal.returns-in_err-axioms
-returns-in_err-axioms c =
-    let file = c.args.file.now in
-    let n = c.in_ok-facts.facts in
-    let place = c.next_facts.new.place.at in
-    let q = err_from_is_err_and c.from_residual-in_err-axioms.result c.from_residual-in_err-axioms.ensures.1 in
-    rw (q.1, q.2) (start_faulty n place (next_field 2 2 (drop place file)) _ _ (facts_read file n place c.in_ok-facts.ensures) c.in_err-axioms.ensures.0)
 
 pub returns-in_err-axioms-2 : goal.returns-in_err-axioms-2
 returns-in_err-axioms-2 c =
