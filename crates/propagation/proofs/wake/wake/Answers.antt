@@ -44,21 +44,3 @@ clauses-preserved-in-Forces c wi =
       s.come _ _ m.0,
       watched_calm cs _ _ (length ts) n _ (length_push c.clauses.yielded c.in-Some.clause) s.calm (λ i h. s.kept (get_or cs i []) (length ts) ⊥ (back_within _ ts _ _ m.0.back) (m.1 i h)),
     )
-
-pub returns-in-Dead : goal.returns-in-Dead
-returns-in-Dead c wi =
-    let cs = (stood_of c.args.store.now).held in
-    let ts = trailed c.args.board.now in
-    let b = assigned c.clauses.board in
-    let n = length c.clauses.yielded in
-    let t = YieldsList-turn (YieldsList-from_first (λ y. y.now) (λ left. left) cs (c.into_iter-clause-iterator.ensures.into_iter_gives ∙ c.clauses-clause-items.ensures.value)) c.clauses.yielded _ c.clauses.yielded_by _ _ c.in-Some.clause c.in-Some.is c.next.ensures.steps in
-    let at : c.in-Some.clause.now ≡ get_or cs n [] = t.1 ∙ get_or_default cs n c.in-Some.clause.now [] t.0 in
-    let m = c.clauses.invariant wi in
-    record { run = m.0.run; back = m.0.back; end = record { clause = n; held = t.0; dead = judged (λ a k. live a k ≡ []) c.values.ensures at c.in-Dead.ensures } }
-
-pub returns : goal.returns
-returns c wi =
-    let cs = (stood_of c.args.store.now).held in
-    let e = YieldsList-end (YieldsList-from_first (λ y. y.now) (λ left. left) cs (c.into_iter-clause-iterator.ensures.into_iter_gives ∙ c.clauses-clause-items.ensures.value)) c.clauses.yielded _ c.clauses.yielded_by _ _ c.in-None.is c.next.ensures.steps in
-    let m = c.clauses.invariant wi in
-    record { run = m.0.run; back = m.0.back; end = watched_all cs _ _ (length (trailed c.args.board.now)) (length c.clauses.yielded) (omega (arith, e.1)) m.1 }

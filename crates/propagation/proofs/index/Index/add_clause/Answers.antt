@@ -38,6 +38,3 @@ loop-lit-preserved c =
       c.add.ensures.value ∙ ap (λ (z : ℤ). added (chains c.loop-lit.self) z i) (to_z-of_z w32 x f) ∙ ap (λ z. added z x i) c.loop-lit.invariant.0 ∙ sym (clause_push (chains s) (take k xs) x i) ∙ ap (λ z. added_clause (chains s) z i) (sym (take_more xs k (pos 0) c.loop-lit-test.true)),
       c.add.ensures.most ∙ c.loop-lit.invariant.1,
     )
-
-pub returns : goal.returns
-returns c = record { value = c.loop-lit.invariant.0 ∙ ap (λ z. added_clause (chains c.args.self.now) z c.args.i) (take_all c.loop-lit.lit-index c.args.clause.now c.loop-lit-test.false); most = c.loop-lit.invariant.1 }
