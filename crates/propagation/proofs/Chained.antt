@@ -42,14 +42,9 @@ head_other s (negsuc a) (pos b) i ne = kept (λ (z : Heads). z.positive) s.heads
 head_other s (negsuc a) (negsuc b) i ne = ap (λ (z : Heads). z.negative) (get_or-set_other s.heads (suc a) (suc b) _ no_heads (λ e. let f : b ≡ a = omega arith in ne (ap negsuc f)))
 
 -- the two lists after one entry more
-pub added_is : (s : Chains) (l : ℤ) (i v n : ℕ) (old new : Heads) (next : Option ℕ) (hs : List Heads) (es : List Entry) → v ≡ variable l → old ≡ heads_at s.heads v → n ≡ length s.entries → new ≡ begins old l n → next ≡ begun old l → hs ≡ set s.heads v new → es ≡ s.entries ++ record { owner = i; next = next } ∷ [] → ◌≡◌ {A = Chains} (record { heads = hs; entries = es }) (added s l i)
+pub added_is : (s : Chains) {l z : ℤ} (i : ℕ) {v n : ℕ} {old new : Heads} {link : Option ℕ} {es : List Entry} → z ≡ l → v ≡ variable z → old ≡ heads_at s.heads v → n ≡ length s.entries → new ≡ begins old z n → link ≡ begun old z → es ≡ s.entries ++ record { owner = i; next = link } ∷ [] → ◌≡◌ {A = Chains} (record { heads = set s.heads v new; entries = es }) (added s l i)
 unfolding added
-added_is s l i v n old new next hs es a b c d e f g =
-    let o : old ≡ heads_at s.heads (variable l) = b ∙ ap (heads_at s.heads) a in
-    let h : hs ≡ set s.heads (variable l) (begins (heads_at s.heads (variable l)) l (length s.entries)) = cc in
-    let x : next ≡ head s l = e ∙ ap (λ z. begun z l) o in
-    let k : es ≡ s.entries ++ record { owner = i; next = head s l } ∷ [] = g ∙ ap (λ z. s.entries ++ record { owner = i; next = z } ∷ []) x in
-    ap (λ (z : List Heads). record { heads = z; entries = es }) h ∙ ap (λ (z : List Entry). record { heads = set s.heads (variable l) (begins (heads_at s.heads (variable l)) l (length s.entries)); entries = z }) k
+added_is s i a b c d e f g = cc
 
 pub added_long : (s : Chains) (l : ℤ) (i : ℕ) → (length (added s l i).entries ≡ length s.entries + 1) × (length (added s l i).heads ≡ length s.heads)
 unfolding added
