@@ -1,7 +1,7 @@
 -- What is listed, as entries are added.
-use Rattle.std.proofs.Common.{◌≡◌, ℕ, zero, suc, ◌+◌, ◌<◌, ◌≤◌, ◌⊎◌, List, [], ◌∷◌, ◌++◌, length, get_or, take, set, replicate, ℤ, pos, negsuc, None, Some, Option, sym, refl, ap, ◌∙◌, subst, inl, inr, arith, length-set}
+use Rattle.std.proofs.Common.{◌≡◌, ℕ, zero, suc, ◌+◌, ◌<◌, ◌≤◌, ◌⊎◌, List, [], ◌∷◌, ◌++◌, length, get_or, take, set, replicate, ℤ, pos, negsuc, None, Some, Option, sym, refl, ap, ◌∙◌, subst, inl, inr, arith, length-set, length-take}
 use Rattle.std.proofs.lemmas.Bool.{cases_eq, cases_lt}
-use Rattle.std.proofs.lemmas.List.{get_or_append_left, get_or_push, get_or-set_same, get_or-set_other, length_push, set_past, length-replicate}
+use Rattle.std.proofs.lemmas.List.{get_or_append_left, get_or_push, get_or-set_same, get_or-set_other, length_push, take_more, set_past, length-replicate}
 use Rattle.std.specs.Option.{ForSome}
 use Rattle.holder.specs.Widest.{variable}
 use Rattle.holder.specs.Clauses.{size}
@@ -213,10 +213,18 @@ unfolding added_clause
 clause_push s [] l i = refl
 clause_push s (m ∷ c) l i = clause_push (added s m i) c l i
 
-pub all_push : (s : Chains) (cs : List (List ℤ)) (c : List ℤ) (i : ℕ) → added_all s (cs ++ c ∷ []) i ≡ added_clause (added_all s cs i) c (i + length cs)
+all_push : (s : Chains) (cs : List (List ℤ)) (c : List ℤ) (i : ℕ) → added_all s (cs ++ c ∷ []) i ≡ added_clause (added_all s cs i) c (i + length cs)
 unfolding added_all
-all_push s [] c i = let e : i ≡ i + 0 = omega arith in ap (added_clause s c) e
-all_push s (d ∷ cs) c i = let e : suc i + length cs ≡ i + suc (length cs) = omega arith in all_push (added_clause s d i) cs c (suc i) ∙ ap (added_clause (added_all (added_clause s d i) cs (suc i)) c) e
+all_push s [] c i = ap (added_clause s c) (let e : i ≡ i + 0 = omega arith in e)
+all_push s (d ∷ cs) c i = all_push (added_clause s d i) cs c (suc i) ∙ ap (added_clause (added_all (added_clause s d i) cs (suc i)) c) (let e : suc i + length cs ≡ i + suc (length cs) = omega arith in e)
+
+-- the next clause of a list
+pub all_more : (s : Chains) (cs : List (List ℤ)) (k : ℕ) {n i : ℕ} {c : List ℤ} → n ≡ k + 1 → k < length cs → i ≡ k → c ≡ get_or cs k [] → added_clause (added_all s (take k cs) 0) c i ≡ added_all s (take n cs) 0
+all_more s cs k n l e f =
+    let q : 0 + length (take k cs) ≡ k = omega (arith, length-take k cs) in
+    let t = take_more cs k [] l in
+    let p = all_push s (take k cs) (get_or cs k []) 0 in
+    cc
 
 pub clause_none : (s : Chains) (i : ℕ) → added_clause s [] i ≡ s
 unfolding added_clause
