@@ -1,7 +1,8 @@
 -- What is listed, as entries are added.
 use Rattle.std.proofs.Common.{◌≡◌, ℕ, zero, suc, ◌+◌, ◌<◌, ◌≤◌, ◌⊎◌, List, [], ◌∷◌, ◌++◌, length, get_or, take, set, replicate, ℤ, pos, negsuc, None, Some, Option, sym, refl, ap, ◌∙◌, subst, inl, inr, arith, length-set, length-take}
+use Rattle.std.proofs.Math.IntN.{ℤ_discrete}
 use Rattle.std.proofs.lemmas.Bool.{cases_eq, cases_lt}
-use Rattle.std.proofs.lemmas.List.{get_or_append_left, get_or_push, get_or-set_same, get_or-set_other, length_push, take_more, set_past, length-replicate}
+use Rattle.std.proofs.lemmas.List.{get_or_append_left, get_or_push, get_or-set_same, get_or-set_other, length_push, take_more, get_or-take, set_past, length-replicate}
 use Rattle.std.specs.Option.{ForSome}
 use Rattle.holder.specs.Widest.{variable}
 use Rattle.holder.specs.Clauses.{size}
@@ -11,15 +12,8 @@ use Rattle.propagation.specs.declared.index.Heads.{Heads}
 use Rattle.propagation.specs.Chains.{Chains, no_heads, no_entry, heads_at, entry_at, Leads, here, there, head, Lists, begins, begun, added, added_clause, added_all, no_chains, Falling, Starting, Good, Owned, Indexes}
 
 leads_more : (es : List Entry) (x : Entry) {from : Option ℕ} {i : ℕ} → Leads es from i → Leads (es ++ x ∷ []) from i
-leads_more es x (here q i l e) = here q i (let h = length_push es x in omega arith) (ap (λ (z : Entry). z.owner) (get_or_append_left es (x ∷ []) no_entry q l) ∙ e)
-leads_more es x (there q i l r) =
-    there q i (let h = length_push es x in omega arith) (subst (λ (z : Entry). Leads (es ++ x ∷ []) z.next i) (sym (get_or_append_left es (x ∷ []) no_entry q l)) (leads_more es x r))
-
-same_literal : (m l : ℤ) → (m ≡ l) ⊎ (m ≡ l → ⊥)
-same_literal (pos a) (pos b) = elim (cases_eq a b) [ inl e ↦ inl (ap pos e) | inr ne ↦ inr (λ e. let f : a ≡ b = cc in ne f) ]
-same_literal (pos a) (negsuc b) = inr (λ e. cc)
-same_literal (negsuc a) (pos b) = inr (λ e. cc)
-same_literal (negsuc a) (negsuc b) = elim (cases_eq a b) [ inl e ↦ inl (ap negsuc e) | inr ne ↦ inr (λ e. let f : a ≡ b = cc in ne f) ]
+leads_more es x (here q i l e) = here q i (omega (arith, length_push es x)) (rw get_or_append_left e)
+leads_more es x (there q i l r) = there q i (omega (arith, length_push es x)) (rw get_or_append_left (leads_more es x r))
 
 -- what is read after one place is set
 set_either : (hs : List Heads) (a v : ℕ) (h : Heads) → (v ≡ a) × (heads_at (set hs a h) v ≡ h) ⊎ (heads_at (set hs a h) v ≡ heads_at hs v)
@@ -94,6 +88,12 @@ module _ (s : Chains) (l : ℤ) (i : ℕ) where
     | inr n ↦ (let e : length s.entries ≡ q = omega arith in subst (λ (z : ℕ). ForSome (entry_at (added s l i).entries z).next (λ p. p < z)) e (subst (λ (z : Entry). ForSome z.next (λ p. p < length s.entries)) (sym new_entry) (head_below s l (length s.entries) h)))
   ]
 
+-- t is s with entries more, of clauses below n
+pub record Gains (places n : ℕ) (s t : Chains) : Type 0 where
+  pub good : Good places t
+  pub grown : (m : ℤ) (j : ℕ) → Lists s m j → Lists t m j
+  pub owned : (count : ℕ) → n ≤ count → Owned count s → Owned count t
+
 module _ (s : Chains) (l : ℤ) (i places : ℕ) (good : Good places s) (within : variable l < places) where
   head_here : head (added s l i) l ≡ Some (length s.entries)
   unfolding added
@@ -110,80 +110,61 @@ module _ (s : Chains) (l : ℤ) (i places : ℕ) (good : Good places s) (within 
   new_in : length s.entries < length (added s l i).entries
   new_in = let h = (added_long s l i).0 in omega arith
 
-  pub added_grown : (m : ℤ) (j : ℕ) → Lists s m j → Lists (added s l i) m j
-  added_grown m j r = elim (same_literal m l) [
-    | inl e ↦ (
-        let deeper : Leads (added s l i).entries (Some (length s.entries)) j =
-        there (length s.entries) j new_in (subst (λ (z : Option ℕ). Leads (added s l i).entries z j) (ap (head s) e ∙ sym (ap (λ (z : Entry). z.next) (new_entry s l i))) (kept_leads r)) in
-        subst (λ (z : Option ℕ). Leads (added s l i).entries z j) (sym (ap (head (added s l i)) e ∙ head_here)) deeper)
-    | inr ne ↦ subst (λ (z : Option ℕ). Leads (added s l i).entries z j) (sym (head_other s l m i ne)) (kept_leads r)
+  added_grown : (m : ℤ) (j : ℕ) → Lists s m j → Lists (added s l i) m j
+  added_grown m j r = elim (ℤ_discrete m l) [
+    | yes e ↦ rw (e, head_here) (there (length s.entries) j new_in (rw (new_entry s l i) (subst (λ z. Leads (added s l i).entries (head s z) j) e (kept_leads r))))
+    | no ne ↦ rw (head_other s l m i ne) (kept_leads r)
   ]
 
-  pub added_listed : Lists (added s l i) l i
-  added_listed = subst (λ (z : Option ℕ). Leads (added s l i).entries z i) (sym head_here) (here (length s.entries) i new_in (ap (λ (z : Entry). z.owner) (new_entry s l i)))
+  added_listed : Lists (added s l i) l i
+  added_listed = rw head_here (here (length s.entries) i new_in (ap (λ (z : Entry). z.owner) (new_entry s l i)))
 
-  pub added_good : Good places (added s l i)
+  added_good : Good places (added s l i)
   added_good = record { long = (added_long s l i).1 ∙ good.long; falling = added_falling s l i good.starts good.falling; starts = added_starts s l i good.starts }
 
-  pub added_owned : (count : ℕ) → i < count → Owned count s → Owned count (added s l i)
-  added_owned count h o q k = let a0 = (added_long s l i).0 in elim (cases_lt q (length s.entries)) [
-    | inl b ↦ (let e = ap (λ (z : Entry). z.owner) (old_entry s l i q b) in let f = o q b in omega arith)
-    | inr n ↦ (let e : q ≡ length s.entries = omega arith in let g = ap (λ (z : ℕ). (entry_at (added s l i).entries z).owner) e ∙ ap (λ (z : Entry). z.owner) (new_entry s l i) in omega arith)
+  added_owned : (count : ℕ) → suc i ≤ count → Owned count s → Owned count (added s l i)
+  added_owned count h o q k = let a = (added_long s l i).0 in elim (cases_lt q (length s.entries)) [
+    | inl b ↦ omega (arith, ap (λ (z : Entry). z.owner) (old_entry s l i q b), o q b)
+    | inr n ↦ (let e : q ≡ length s.entries = omega arith in omega (arith, ap (λ (z : ℕ). (entry_at (added s l i).entries z).owner) e, ap (λ (z : Entry). z.owner) (new_entry s l i)))
   ]
 
--- one clause more
-pub record Gains (places : ℕ) (s t : Chains) : Type 0 where
-  pub good : Good places t
-  pub grown : (m : ℤ) (j : ℕ) → Lists s m j → Lists t m j
+  added_gains : Gains places (suc i) s (added s l i)
+  added_gains = record { good = added_good; grown = added_grown; owned = added_owned }
 
-pub clause_gains : (places : ℕ) (s : Chains) (c : List ℤ) (i : ℕ) → Good places s → WithinClause places c → Gains places s (added_clause s c i)
-unfolding added_clause
-clause_gains places s [] i g w = record { good = g; grown = λ m j r. r }
-clause_gains places s (l ∷ c) i g w =
-    let h = clause_gains places (added s l i) c i (added_good s l i places g w.0) w.1 in
-    record { good = h.good; grown = λ m j r. h.grown m j (added_grown s l i places g w.0 m j r) }
+gains_none : {places n : ℕ} {s : Chains} → Good places s → Gains places n s s
+gains_none g = record { good = g; grown = λ m j r. r; owned = λ count h o. o }
 
-pub clause_listed : (places : ℕ) (s : Chains) (c : List ℤ) (i : ℕ) → Good places s → WithinClause places c → (k : ℕ) → k < length c → Lists (added_clause s c i) (get_or c k (pos 0)) i
-unfolding added_clause
-clause_listed places s [] i g w k h = absurd (let z : ⊥ = omega arith in z)
-clause_listed places s (l ∷ c) i g w zero h = (clause_gains places (added s l i) c i (added_good s l i places g w.0) w.1).grown l i (added_listed s l i places g w.0)
-clause_listed places s (l ∷ c) i g w (suc k) h = clause_listed places (added s l i) c i (added_good s l i places g w.0) w.1 k (omega arith)
+gains_trans : {places m n : ℕ} {s t u : Chains} → m ≤ n → Gains places m s t → Gains places n t u → Gains places n s u
+gains_trans l h k = record { good = k.good; grown = λ m j r. k.grown m j (h.grown m j r); owned = λ count e o. k.owned count e (h.owned count (omega arith) o) }
 
-pub clause_owned : (places count : ℕ) (s : Chains) (c : List ℤ) (i : ℕ) → Good places s → WithinClause places c → i < count → Owned count s → Owned count (added_clause s c i)
-unfolding added_clause
-clause_owned places count s [] i g w h o = o
-clause_owned places count s (l ∷ c) i g w h o = clause_owned places count (added s l i) c i (added_good s l i places g w.0) w.1 h (added_owned s l i places g w.0 count h o)
+module _ (places : ℕ) where
+  clause_gains : (s : Chains) (c : List ℤ) (i : ℕ) → Good places s → WithinClause places c → Gains places (suc i) s (added_clause s c i)
+  unfolding added_clause
+  clause_gains s [] i g w = gains_none g
+  clause_gains s (l ∷ c) i g w = let a = added_gains s l i places g w.0 in gains_trans (omega arith) a (clause_gains (added s l i) c i a.good w.1)
 
--- all clauses
-within_tail : (places : ℕ) (c : List ℤ) (cs : List (List ℤ)) → Within places (c ∷ cs) → Within places cs
-within_tail places c cs w i h = w (suc i) (omega arith)
+  clause_listed : (s : Chains) (c : List ℤ) (i : ℕ) → Good places s → WithinClause places c → (k : ℕ) → k < length c → Lists (added_clause s c i) (get_or c k (pos 0)) i
+  unfolding added_clause
+  clause_listed s [] i g w k h = absurd (let z : ⊥ = omega arith in z)
+  clause_listed s (l ∷ c) i g w zero h = (clause_gains (added s l i) c i (added_good s l i places g w.0) w.1).grown l i (added_listed s l i places g w.0)
+  clause_listed s (l ∷ c) i g w (suc k) h = clause_listed (added s l i) c i (added_good s l i places g w.0) w.1 k (omega arith)
 
-pub all_gains : (places : ℕ) (s : Chains) (cs : List (List ℤ)) (i : ℕ) → Good places s → Within places cs → Gains places s (added_all s cs i)
-unfolding added_all
-all_gains places s [] i g w = record { good = g; grown = λ m j r. r }
-all_gains places s (c ∷ cs) i g w =
-    let h = clause_gains places s c i g (w 0 (omega arith)) in
-    let k = all_gains places (added_clause s c i) cs (suc i) h.good (within_tail places c cs w) in
-    record { good = k.good; grown = λ m j r. k.grown m j (h.grown m j r) }
+  pub all_gains : (s : Chains) (cs : List (List ℤ)) (i : ℕ) → Good places s → Within places cs → Gains places (i + length cs) s (added_all s cs i)
+  unfolding added_all
+  all_gains s [] i g w = gains_none g
+  all_gains s (c ∷ cs) i g w =
+      let a = clause_gains s c i g (w 0 (omega arith)) in
+      let b = all_gains (added_clause s c i) cs (suc i) a.good (λ j h. w (suc j) (omega arith)) in
+      gains_trans (omega arith) a (record { good = b.good; grown = b.grown; owned = λ count e o. b.owned count (omega arith) o })
 
-all_listed : (places : ℕ) (s : Chains) (cs : List (List ℤ)) (i : ℕ) → Good places s → Within places cs → (j : ℕ) → j < length cs → (k : ℕ) → k < length (get_or cs j []) → Lists (added_all s cs i) (get_or (get_or cs j []) k (pos 0)) (i + j)
-unfolding added_all
-all_listed places s [] i g w j h k l = absurd (let z : ⊥ = omega arith in z)
-all_listed places s (c ∷ cs) i g w zero h k l =
-    let a = clause_gains places s c i g (w 0 (omega arith)) in
-    let e : i ≡ i + 0 = omega arith in
-    subst (λ (z : ℕ). Lists (added_all (added_clause s c i) cs (suc i)) (get_or c k (pos 0)) z) e ((all_gains places (added_clause s c i) cs (suc i) a.good (within_tail places c cs w)).grown (get_or c k (pos 0)) i (clause_listed places s c i g (w 0 (omega arith)) k l))
-all_listed places s (c ∷ cs) i g w (suc j) h k l =
-    let a = clause_gains places s c i g (w 0 (omega arith)) in
-    let e : suc i + j ≡ i + suc j = omega arith in
-    subst (λ (z : ℕ). Lists (added_all (added_clause s c i) cs (suc i)) (get_or (get_or cs j []) k (pos 0)) z) e (all_listed places (added_clause s c i) cs (suc i) a.good (within_tail places c cs w) j (omega arith) k l)
-
-all_owned : (places count : ℕ) (s : Chains) (cs : List (List ℤ)) (i : ℕ) → Good places s → Within places cs → i + length cs ≤ count → Owned count s → Owned count (added_all s cs i)
-unfolding added_all
-all_owned places count s [] i g w h o = o
-all_owned places count s (c ∷ cs) i g w h o =
-    let a = clause_gains places s c i g (w 0 (omega arith)) in
-    all_owned places count (added_clause s c i) cs (suc i) a.good (within_tail places c cs w) (omega arith) (clause_owned places count s c i g (w 0 (omega arith)) (omega arith) o)
+  all_listed : (s : Chains) (cs : List (List ℤ)) (i : ℕ) → Good places s → Within places cs → (j n : ℕ) → n ≡ i + j → j < length cs → (k : ℕ) → k < length (get_or cs j []) → Lists (added_all s cs i) (get_or (get_or cs j []) k (pos 0)) n
+  unfolding added_all
+  all_listed s [] i g w j n e h k l = absurd (let z : ⊥ = omega arith in z)
+  all_listed s (c ∷ cs) i g w zero n e h k l =
+      let a = clause_gains s c i g (w 0 (omega arith)) in
+      let f : i ≡ n = omega arith in
+      (all_gains (added_clause s c i) cs (suc i) a.good (λ j h. w (suc j) (omega arith))).grown _ n (subst (Lists (added_clause s c i) (get_or c k (pos 0))) f (clause_listed s c i g (w 0 (omega arith)) k l))
+  all_listed s (c ∷ cs) i g w (suc j) n e h k l = all_listed (added_clause s c i) cs (suc i) (clause_gains s c i g (w 0 (omega arith))).good (λ j h. w (suc j) (omega arith)) j n (omega arith) (omega arith) k l
 
 pub none_good : (places : ℕ) → Good places (no_chains places)
 none_good places = record {
@@ -201,11 +182,13 @@ none_good places = record {
     none_at (suc k) (suc v) = none_at k v
 
 pub all_indexes : (places : ℕ) (cs : List (List ℤ)) → Within places cs → Indexes cs places (added_all (no_chains places) cs 0)
-all_indexes places cs w = record {
-  good = (all_gains places (no_chains places) cs 0 (none_good places) w).good;
-  owned = all_owned places (length cs) (no_chains places) cs 0 (none_good places) w (omega arith) (λ q h. absurd (let z : ⊥ = omega arith in z));
-  all = λ i h k l. let e : 0 + i ≡ i = omega arith in subst (λ (z : ℕ). Lists (added_all (no_chains places) cs 0) (get_or (get_or cs i []) k (pos 0)) z) e (all_listed places (no_chains places) cs 0 (none_good places) w i h k l);
-}
+all_indexes places cs w =
+    let h = all_gains places (no_chains places) cs 0 (none_good places) w in
+    record {
+      good = h.good;
+      owned = h.owned (length cs) (omega arith) (λ q h. absurd (let z : ⊥ = omega arith in z));
+      all = λ i h k l. all_listed places (no_chains places) cs 0 (none_good places) w i i (omega arith) h k l;
+    }
 
 -- one more at the end
 pub clause_push : (s : Chains) (c : List ℤ) (l : ℤ) (i : ℕ) → added_clause s (c ++ l ∷ []) i ≡ added (added_clause s c i) l i
@@ -226,23 +209,15 @@ all_more s cs k n l e f =
     let p = all_push s (take k cs) (get_or cs k []) 0 in
     cc
 
-pub clause_none : (s : Chains) (i : ℕ) → added_clause s [] i ≡ s
-unfolding added_clause
-clause_none s i = refl
-
-pub all_none : (s : Chains) (i : ℕ) → added_all s [] i ≡ s
-unfolding added_all
-all_none s i = refl
-
 pub clause_long : (s : Chains) (c : List ℤ) (i : ℕ) → length (added_clause s c i).entries ≡ length s.entries + length c
 unfolding added_clause
 clause_long s [] i = omega arith
-clause_long s (l ∷ c) i = let h = clause_long (added s l i) c i in let a = (added_long s l i).0 in omega arith
+clause_long s (l ∷ c) i = omega (arith, clause_long (added s l i) c i, (added_long s l i).0)
 
 pub size-take : (cs : List (List ℤ)) (i : ℕ) → i < length cs → size (take i cs) + length (get_or cs i []) ≤ size cs
 size-take [] i h = absurd (let z : ⊥ = omega arith in z)
 size-take (c ∷ cs) zero h = omega arith
-size-take (c ∷ cs) (suc i) h = let r = size-take cs i (omega arith) in omega arith
+size-take (c ∷ cs) (suc i) h = omega (arith, size-take cs i (omega arith))
 
 pub clause_heads : (s : Chains) (c : List ℤ) (i : ℕ) → length (added_clause s c i).heads ≡ length s.heads
 unfolding added_clause
@@ -252,13 +227,10 @@ clause_heads s (l ∷ c) i = clause_heads (added s l i) c i ∙ (added_long s l 
 pub all_long : (s : Chains) (cs : List (List ℤ)) (i : ℕ) → length (added_all s cs i).entries ≡ length s.entries + size cs
 unfolding added_all
 all_long s [] i = omega arith
-all_long s (c ∷ cs) i = let h = all_long (added_clause s c i) cs (suc i) in let k = clause_long s c i in omega arith
+all_long s (c ∷ cs) i = omega (arith, all_long (added_clause s c i) cs (suc i), clause_long s c i)
 
 pub all_within_take : (places : ℕ) (cs : List (List ℤ)) (k : ℕ) → Within places cs → Within places (take k cs)
-all_within_take places cs zero w i h = absurd (let z : ⊥ = omega arith in z)
-all_within_take places [] (suc k) w i h = absurd (let z : ⊥ = omega arith in z)
-all_within_take places (c ∷ cs) (suc k) w zero h = w 0 (omega arith)
-all_within_take places (c ∷ cs) (suc k) w (suc i) h = all_within_take places cs k (within_tail places c cs w) i (omega arith)
+all_within_take places cs k w i h = let l = length-take k cs in rw (get_or-take k cs i [] (omega arith)) (w i (omega arith))
 
 pub within_at : (n : ℕ) (c : List ℤ) → WithinClause n c → (k : ℕ) → k < length c → variable (get_or c k (pos 0)) < n
 within_at n [] w k l = absurd (let z : ⊥ = omega arith in z)

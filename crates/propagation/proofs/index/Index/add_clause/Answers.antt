@@ -4,11 +4,12 @@ use Rattle.std.proofs.lemmas.List.{take_more, take_all}
 use Rattle.holder.specs.Widest.{variable}
 use Rattle.propagation.specs.Chains.{added, added_clause}
 use Rattle.propagation.specs.Made.{chains}
-use Rattle.propagation.proofs.Chained.{clause_heads, clause_push, clause_none, clause_long, within_at}
+use Rattle.propagation.proofs.Chained.{clause_heads, clause_push, clause_long, within_at}
 use Rattle.propagation.proofs.index.Index.add_clause.Goals as goal
 
 pub loop-lit-init : goal.loop-lit-init
-loop-lit-init c = (sym (clause_none (chains c.args.self.now) c.args.i), refl)
+unfolding added_clause
+loop-lit-init c = (refl, refl)
 
 pub add-requires : goal.add-requires
 add-requires c =

@@ -5,7 +5,7 @@ use Rattle.std.proofs.lemmas.List.{take_all, get_or_default, length_push}
 use Rattle.std.proofs.lemmas.List.FromFn.{length-enumerate_from, get_or-enumerate_from}
 use Rattle.clause_store.specs.Made.{stood_of}
 use Rattle.trials.specs.Exist.{WithinClause}
-use Rattle.propagation.proofs.Chained.{all_gains, all_more, all_none, all_long, all_within_take, size-take, none_good, all_indexes}
+use Rattle.propagation.proofs.Chained.{all_gains, all_more, all_long, all_within_take, size-take, none_good, all_indexes}
 use Rattle.propagation.specs.Chains.{Chains, Good, Indexes, added_clause, added_all, no_chains}
 use Rattle.propagation.specs.Made.{chains}
 use Rattle.propagation.proofs.index.Index.list_all.Goals.{In-Some}
@@ -23,7 +23,8 @@ listed c =
     (l, omega (arith, ap (λ z. z.0) e), ap (λ z. z.1) e ∙ get_or_default cs k c.in-Some.clause.now [] l)
 
 pub loop-i-init : goal.loop-i-init
-loop-i-init c = (c.clear.ensures.value ∙ sym (all_none (no_chains (c.args.n + 1)) 0), refl)
+unfolding added_all
+loop-i-init c = (c.clear.ensures.value, refl)
 
 pub add_clause-requires : goal.add_clause-requires
 add_clause-requires c =
