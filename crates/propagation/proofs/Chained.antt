@@ -30,10 +30,15 @@ kept f hs a v h e = elim (set_either hs a v h) [ inl k ↦ ap f k.1 ∙ e ∙ sy
 
 head_other : (s : Chains) (l m : ℤ) (i : ℕ) → (m ≡ l → ⊥) → head (added s l i) m ≡ head s m
 unfolding added
-head_other s (pos a) (pos b) i ne = ap (λ (z : Heads). z.positive) (get_or-set_other s.heads a b _ no_heads (λ e. ne (ap pos e)))
-head_other s (pos a) (negsuc b) i ne = kept (λ (z : Heads). z.negative) s.heads a (suc b) _ refl
-head_other s (negsuc a) (pos b) i ne = kept (λ (z : Heads). z.positive) s.heads (suc a) b _ refl
-head_other s (negsuc a) (negsuc b) i ne = ap (λ (z : Heads). z.negative) (get_or-set_other s.heads (suc a) (suc b) _ no_heads (λ e. let f : b ≡ a = omega arith in ne (ap negsuc f)))
+head_other s (pos a) (pos b) i ne = rw (get_or-set_other s.heads a b _ no_heads (λ e. ne (ap pos e)))
+head_other s (pos a) (negsuc b) i ne = kept (λ z. z.negative) s.heads a (suc b) _ refl
+head_other s (negsuc a) (pos b) i ne = kept (λ z. z.positive) s.heads (suc a) b _ refl
+head_other s (negsuc a) (negsuc b) i ne = rw (get_or-set_other s.heads (suc a) (suc b) _ no_heads (λ e. let f : b ≡ a = omega arith in ne (ap negsuc f)))
+
+head_here : (s : Chains) (l : ℤ) (i : ℕ) → variable l < length s.heads → head (added s l i) l ≡ Some (length s.entries)
+unfolding added
+head_here s (pos a) i w = rw (get_or-set_same s.heads a _ no_heads w)
+head_here s (negsuc a) i w = rw (get_or-set_same s.heads (suc a) _ no_heads w)
 
 -- the two lists after one entry more
 pub added_is : (s : Chains) {l z : ℤ} (i : ℕ) {v n : ℕ} {old new : Heads} {link : Option ℕ} {es : List Entry} → z ≡ l → v ≡ variable z → old ≡ heads_at s.heads v → n ≡ length s.entries → new ≡ begins old z n → link ≡ begun old z → es ≡ s.entries ++ record { owner = i; next = link } ∷ [] → ◌≡◌ {A = Chains} (record { heads = set s.heads v new; entries = es }) (added s l i)
@@ -45,7 +50,7 @@ unfolding added
 added_long s l i = (length_push s.entries _, length-set s.heads (variable l) _)
 
 wider : (o : Option ℕ) (n : ℕ) → ForSome o (λ p. p < n) → ForSome o (λ p. p < n + 1)
-wider o n h p e = let k = h p e in omega arith
+wider o n h p e = omega (arith, h p e)
 
 the_new : (n : ℕ) → ForSome (Some n) (λ p. p < n + 1)
 the_new n p e = let f : n ≡ p = cc in omega arith
@@ -69,9 +74,9 @@ module _ (s : Chains) (l : ℤ) (i : ℕ) where
       let n = length s.entries in
       let a = variable l in
       let g = begins (heads_at s.heads a) l n in
-      subst (λ (k : ℕ). Below k (heads_at (set s.heads a g) v)) (sym (length_push s.entries _)) (elim (set_either s.heads a v g) [
-        | inl k ↦ subst (Below (n + 1)) (sym k.1) (begins_below n (heads_at s.heads a) l (h a))
-        | inr k ↦ subst (Below (n + 1)) (sym k) (wider _ n (h v).0, wider _ n (h v).1)
+      rw (length_push s.entries _) (elim (set_either s.heads a v g) [
+        | inl k ↦ rw k.1 (begins_below n (heads_at s.heads a) l (h a))
+        | inr k ↦ rw k (wider _ n (h v).0, wider _ n (h v).1)
       ])
 
   new_entry : entry_at (added s l i).entries (length s.entries) ≡ record { owner = i; next = head s l }
@@ -84,8 +89,8 @@ module _ (s : Chains) (l : ℤ) (i : ℕ) where
 
   pub added_falling : Starting s.heads (length s.entries) → Falling s.entries → Falling (added s l i).entries
   added_falling h f q w = let a = (added_long s l i).0 in elim (cases_lt q (length s.entries)) [
-    | inl b ↦ subst (λ (z : Entry). ForSome z.next (λ p. p < q)) (sym (old_entry q b)) (f q b)
-    | inr n ↦ (let e : length s.entries ≡ q = omega arith in subst (λ (z : ℕ). ForSome (entry_at (added s l i).entries z).next (λ p. p < z)) e (subst (λ (z : Entry). ForSome z.next (λ p. p < length s.entries)) (sym new_entry) (head_below s l (length s.entries) h)))
+    | inl b ↦ rw (old_entry q b) (f q b)
+    | inr n ↦ (let e : q ≡ length s.entries = omega arith in rw (e, new_entry) (head_below s l (length s.entries) h))
   ]
 
 -- t is s with entries more, of clauses below n
@@ -95,14 +100,6 @@ pub record Gains (places n : ℕ) (s t : Chains) : Type 0 where
   pub owned : (count : ℕ) → n ≤ count → Owned count s → Owned count t
 
 module _ (s : Chains) (l : ℤ) (i places : ℕ) (good : Good places s) (within : variable l < places) where
-  head_here : head (added s l i) l ≡ Some (length s.entries)
-  unfolding added
-  head_here = here_at l (let e = good.long in omega arith)
-    where
-      here_at : (m : ℤ) → variable m < length s.heads → head (added s m i) m ≡ Some (length s.entries)
-      here_at (pos a) w = ap (λ (z : Heads). z.positive) (get_or-set_same s.heads a _ no_heads w)
-      here_at (negsuc a) w = ap (λ (z : Heads). z.negative) (get_or-set_same s.heads (suc a) _ no_heads w)
-
   kept_leads : {from : Option ℕ} {j : ℕ} → Leads s.entries from j → Leads (added s l i).entries from j
   unfolding added
   kept_leads r = leads_more s.entries _ r
@@ -112,12 +109,12 @@ module _ (s : Chains) (l : ℤ) (i places : ℕ) (good : Good places s) (within 
 
   added_grown : (m : ℤ) (j : ℕ) → Lists s m j → Lists (added s l i) m j
   added_grown m j r = elim (ℤ_discrete m l) [
-    | yes e ↦ rw (e, head_here) (there (length s.entries) j new_in (rw (new_entry s l i) (subst (λ z. Leads (added s l i).entries (head s z) j) e (kept_leads r))))
+    | yes e ↦ rw (e, head_here s l i (omega (arith, good.long))) (there (length s.entries) j new_in (rw (new_entry s l i) (subst (λ z. Leads (added s l i).entries (head s z) j) e (kept_leads r))))
     | no ne ↦ rw (head_other s l m i ne) (kept_leads r)
   ]
 
   added_listed : Lists (added s l i) l i
-  added_listed = rw head_here (here (length s.entries) i new_in (ap (λ (z : Entry). z.owner) (new_entry s l i)))
+  added_listed = rw (head_here s l i (omega (arith, good.long))) (here (length s.entries) i new_in (ap (λ (z : Entry). z.owner) (new_entry s l i)))
 
   added_good : Good places (added s l i)
   added_good = record { long = (added_long s l i).1 ∙ good.long; falling = added_falling s l i good.starts good.falling; starts = added_starts s l i good.starts }
