@@ -85,7 +85,7 @@ unfolding live
 forced_calm b c l v x alone opened n s w =
     let t = true_sign (set b v x) l (rw (← n) (get_or-set_same b v x None w ∙ s)) in
     let e : live (set b v x) c ≡ l ∷ [] = sym (live_below b (set b v x) (below_put b v x (rw n (open_at b l opened))) c) ∙ ap (live (set b v x)) alone ∙ rw t in
-    calm_set (set b v x) c l [] e (λ o. set_not_open (sym t ∙ o))
+    calm_set (set b v x) c l (omega (arith, ap length e)) (sym (ap (λ z. get_or z 0 l) e)) (λ o. set_not_open (sym t ∙ o))
 
 -- the chain of the literal that v made false
 against_is : (s : Chains) (b : List Value) (l : ℤ) (v : ℕ) → variable l ≡ v → value b l ≡ Some false → head s l ≡ against s v (get_or b v None)
