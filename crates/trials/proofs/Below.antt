@@ -1,7 +1,7 @@
 -- Assignments that say more.
-use Rattle.std.proofs.Common.{◌≡◌, ℕ, suc, ◌<◌, ◌≤◌, cond, List, [], ◌∷◌, length, get_or, set, ℤ, pos, negsuc, sym, refl, ap, ◌∙◌, subst, inl, inr, None, Some, true, false, Bool}
+use Rattle.std.proofs.Common.{◌≡◌, ℕ, suc, ◌<◌, ◌≤◌, cond, List, [], ◌∷◌, length, get_or, set, replicate, arith, ℤ, pos, negsuc, sym, refl, ap, ◌∙◌, subst, inl, inr, None, Some, true, false, Bool}
 use Rattle.std.proofs.lemmas.Bool.{cases_eq, cases_lt}
-use Rattle.std.proofs.lemmas.List.{get_or-set_same, get_or-set_other, set_past, ext_get_or}
+use Rattle.std.proofs.lemmas.List.{get_or-set_same, get_or-set_other, set_past, ext_get_or, get_or-replicate, get_or_past, length-replicate}
 use Rattle.trials.specs.Values.{Value, flip, value, is_false, sign, holding}
 use Rattle.holder.specs.Widest.{variable}
 use Rattle.trials.specs.Forcing.{live}
@@ -53,11 +53,11 @@ sign_true b (negsuc n) e = flip_back (get_or b (suc n) None) (Some true) e
 pub below_set : (a b : List Value) (w : ℕ) (y : Value) → Below a b → get_or b w None ≡ y → Below (set a w y) b
 below_set a b w y h e v x g s =
     elim (cases_eq v w) [
-      | inl i ↦ elim (cases_lt v (length a)) [
-        | inl less ↦ subst (λ (k : ℕ). get_or b k None ≡ x) (sym i) (e ∙ sym (get_or-set_same a w y None (subst (λ (k : ℕ). k < length a) i less)) ∙ subst (λ (k : ℕ). get_or (set a w y) k None ≡ x) i g)
-        | inr past ↦ h v x (sym (ap (λ (z : List Value). get_or z v None) (set_past a w y (subst (λ (k : ℕ). length a ≤ k) i past))) ∙ g) s
+      | inl i ↦ elim (cases_lt w (length a)) [
+        | inl l ↦ rw i (e ∙ sym (get_or-set_same a w y None l) ∙ (rw i at g))
+        | inr p ↦ h v x (rw (set_past a w y p) at g) s
       ]
-      | inr ne ↦ h v x (sym (get_or-set_other a w v y None ne) ∙ g) s
+      | inr ne ↦ h v x (rw (get_or-set_other a w v y None ne) at g) s
     ]
 
 pub below_holding : (a b : List Value) (l : ℤ) → Below a b → value b l ≡ Some true → Below (holding a l) b
@@ -76,3 +76,6 @@ same_value (Some b) y f g = sym (f (Some b) refl set_not_open)
 
 pub below_both : (a b : List Value) → length a ≡ length b → Below a b → Below b a → a ≡ b
 below_both a b e f g = ext_get_or None a b e (λ i l. same_value (get_or a i None) (get_or b i None) (f i) (g i))
+
+pub replicate_at : {X : Type 0} (k i : ℕ) (x : X) → get_or (replicate k x) i x ≡ x
+replicate_at k i x = elim (cases_lt i k) [ inl l ↦ get_or-replicate k i x x l | inr p ↦ get_or_past (replicate k x) i x (omega (arith, length-replicate k x)) ]
