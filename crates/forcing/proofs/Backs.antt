@@ -46,16 +46,16 @@ unset_last a ts m h =
     let d : drop m ts ≡ drop m (take k ts) ++ get_or ts k 0 ∷ [] = ap (drop m) all ∙ drop-append-le m (take k ts) (get_or ts k 0 ∷ []) long in
     sym (ap (unset a) d ∙ unset_push a (drop m (take k ts)) (get_or ts k 0))
 
-pub back_none : (a : List Value) (ts : List ℕ) → Back a ts a ts
-back_none a ts = record { front = take_all (length ts) ts (omega arith); undone = ap (unset a) (drop_all (length ts) ts (omega arith)) ∙ unset_none a; long = refl }
+pub back_none : {a : List Value} {ts : List ℕ} → Back a ts a ts
+back_none {a} {ts} = record { front = take_all (length ts) ts (omega arith); undone = ap (unset a) (drop_all (length ts) ts (omega arith)) ∙ unset_none a; long = refl }
 
-pub back_within : (a : List Value) (ts : List ℕ) (b : List Value) (us : List ℕ) → Back a ts b us → length ts ≤ length us
-back_within a ts b us r = let e = ap length r.front in let f = length-take (length ts) us in omega arith
+pub back_within : {a b : List Value} {ts us : List ℕ} → Back a ts b us → length ts ≤ length us
+back_within {ts = ts} {us} r = omega (arith, ap length r.front, length-take (length ts) us)
 
-pub back_put : (a : List Value) (ts : List ℕ) (b : List Value) (us : List ℕ) → Back a ts b us → (v : ℕ) (x : Value) → get_or b v None ≡ None → Back a ts (set b v x) (us ++ v ∷ [])
-back_put a ts b us r v x o =
+pub back_put : {a b : List Value} {ts us : List ℕ} → Back a ts b us → (v : ℕ) (x : Value) → get_or b v None ≡ None → Back a ts (set b v x) (us ++ v ∷ [])
+back_put {b = b} {ts} {us} r v x o =
     let n = length ts in
-    let l = back_within a ts b us r in
+    let l = back_within r in
     let s : set (set b v x) v None ≡ b = set-set b v x None ∙ ap (set b v) (sym o) ∙ set-get_or b v None in
     record {
       front = take-append-le n us (v ∷ []) l ∙ r.front;

@@ -1,6 +1,12 @@
 -- A clause, literal by literal.
-use Rattle.std.proofs.Common.{◌≡◌, Bool, true, false, cond, not, List, [], ◌∷◌, filter, ℤ, None, Some, Option, sym, refl, ap, subst, is_some}
-use Rattle.std.proofs.lemmas.Iterator.{YieldsList}
+use Rattle.std.proofs.Common.{◌≡◌, Bool, true, false, cond, not, ℕ, ◌<◌, length, get_or, ◌∙◌, arith, List, [], ◌∷◌, filter, Bor, Iter, ℤ, None, Some, Option, sym, refl, ap, subst, is_some}
+use Rattle.std.proofs.lemmas.Iterator.{YieldsList, YieldsList-from_slice}
+use Rattle.std.proofs.lemmas.Iterator.Consumers.{YieldsList-from_filter, YieldsList-at}
+use Rattle.std.proofs.iter.Yields.{fronts}
+use Rattle.std.specs.declared.iter.Filter.{Filter}
+use Rattle.std.specs.Fn.{CalledAt, Mut}
+use Rattle.std.specs.Slice.Iter.{iter_rest}
+use Rattle.std.specs.Iterator.Adapters.{filter_source, filter_callee, filter_steps}
 use Rattle.trials.specs.Values.{Value, value, is_false}
 use Rattle.trials.specs.Forcing.{live, Calm}
 
@@ -8,33 +14,26 @@ use Rattle.trials.specs.Forcing.{live, Calm}
 abbrev pub lives : List Value → ℤ → Bool
 lives a l = not (is_false (value a l))
 
--- the literals that are not false are those that pass the test
-pub live_filter : (a : List Value) (c : List ℤ) → filter (lives a) c ≡ live a c
+live_filter : (a : List Value) (c : List ℤ) → filter (lives a) c ≡ live a c
 unfolding live
 live_filter a [] = refl
 live_filter a (l ∷ c) = elim (is_false (value a l)) as (λ b. cond (not b) (l ∷ filter (lives a) c) (filter (lives a) c) ≡ cond b (live a c) (l ∷ live a c)) [ true ↦ live_filter a c | false ↦ ap (λ z. l ∷ z) (live_filter a c) ]
 
--- an iterator, item by item
-module _ {S A B : Type 0} {steps : S → Option A → S → Type 0} {v : A → B} {s : S} where
-  pub yields_none : (ys : List B) → YieldsList steps v s ys → (r : Option A) (t : S) → r ≡ None → steps s r t → ys ≡ []
-  yields_none [] e r t n p = refl
-  yields_none (y ∷ ys) e r t n p = absurd (e.runs.0 t (subst (λ z. steps s z t) n p))
+-- a filter by that test, of which a step is known, gives the literals that are not false
+pub yields_live : (a : List Value) (c : List ℤ) {F : Type 0} {s : Filter (Iter ℤ) F} {t : Iter ℤ} (g : Mut F (Bor (Bor ℤ) × Unit {0}) Bool) {f : F} (r : Option (Bor ℤ)) (u : Filter (Iter ℤ) F) → filter_steps fronts g s r u → filter_source s ≡ t → iter_rest t ≡ c → filter_callee s ≡ f → ((x : Bor ℤ) (b : Bool) (q : F) → CalledAt g f x b q → (q ≡ f) × (b ≡ lives a x.now)) → YieldsList (filter_steps fronts g) (λ y. y.now) s (live a c)
+yields_live a c g r u p d e f h = subst (YieldsList _ _ _) (live_filter a c) (YieldsList-from_filter g (lives a) (YieldsList-at d (YieldsList-from_slice c e)) f h)
 
-  pub yields_some : (ys : List B) → YieldsList steps v s ys → (r : Option A) (x : A) (t : S) → r ≡ Some x → steps s r t → (zs : List B) × (ys ≡ v x ∷ zs) × YieldsList steps v t zs
-  yields_some [] e r x t n p = absurd (e.runs x t (subst (λ z. steps s z t) n p))
-  yields_some (y ∷ ys) e r x t n p = let m = e.runs.1 x t (subst (λ z. steps s z t) n p) in (ys, ap (λ z. z ∷ ys) (sym m.0), record { runs = m.1 })
-
-module _ (a : List Value) (c : List ℤ) (l : ℤ) (ls : List ℤ) (lives : live a c ≡ l ∷ ls) where
-  -- a literal that is true
-  pub calm_set : (value a l ≡ None → ⊥) → Calm a c
-  calm_set s = record {
-    alive = λ d. cc;
-    still = λ k d o. let e : l ≡ k = cc in s (subst (λ (z : ℤ). value a z ≡ None) (sym e) o);
+module _ (a : List Value) (c : List ℤ) where
+  -- the first literal that is not false is true
+  pub calm_set : (l : ℤ) → 0 < length (live a c) → l ≡ get_or (live a c) 0 l → (value a l ≡ None → ⊥) → Calm a c
+  calm_set l h e s = record {
+    alive = λ d. omega (arith, ap length d);
+    still = λ k d o. s (subst (λ z. value a z ≡ None) (sym (e ∙ ap (λ z. get_or z 0 l) d)) o);
   }
 
   -- two literals that are not false
-  pub calm_two : (m : ℤ) (ms : List ℤ) → ls ≡ m ∷ ms → Calm a c
-  calm_two m ms e = record { alive = λ d. cc; still = λ k d o. cc }
+  pub calm_two : 1 < length (live a c) → Calm a c
+  calm_two h = record { alive = λ d. omega (arith, ap length d); still = λ k d o. omega (arith, ap length d) }
 
 pub none_from : {A : Type 0} (o : Option A) → is_some o ≡ false → o ≡ None
 none_from None e = refl

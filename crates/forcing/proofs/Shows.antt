@@ -1,5 +1,6 @@
 -- Assignments as bytes.
 use Rattle.std.proofs.Common.{◌≡◌, ℕ, zero, suc, ◌+◌, ◌<◌, ◌≤◌, Bool, true, false, List, [], ◌∷◌, map, length, get_or, take, drop, ℤ, sym, refl, ap, ◌∙◌, subst, arith, length-drop, length-take, None, Some}
+use Rattle.std.proofs.Math.ListN.{get_or-map}
 use Rattle.std.proofs.lemmas.List.{get_or-take, get_or-drop, length-map, ext_get_or}
 use Rattle.runs.specs.Models.{Model}
 use Rattle.settler.specs.Settling.{bits, Fills}
@@ -7,20 +8,13 @@ use Rattle.trials.specs.Values.{Value, is_true, model_of}
 use Rattle.forcing.specs.Shown.{byte, Shown}
 
 byte_small : (x : Value) → byte x < 2
-byte_small None = omega arith
-byte_small (Some true) = omega arith
-byte_small (Some false) = omega arith
+byte_small x = grind arith
 
 bits_bytes : (xs : List Value) → bits (map byte xs) ≡ map is_true xs
 bits_bytes [] = refl
 bits_bytes (None ∷ xs) = ap (λ z. false ∷ z) (bits_bytes xs)
 bits_bytes ((Some true) ∷ xs) = ap (λ z. true ∷ z) (bits_bytes xs)
 bits_bytes ((Some false) ∷ xs) = ap (λ z. false ∷ z) (bits_bytes xs)
-
-byte_at : (xs : List Value) (k : ℕ) → get_or (map byte xs) k 0 ≡ byte (get_or xs k None)
-byte_at [] k = refl
-byte_at (x ∷ xs) zero = refl
-byte_at (x ∷ xs) (suc k) = byte_at xs k
 
 module _ (n : ℕ) (a : List Value) (b b' : List ℕ) (listed : n < length a) (room : n ≤ length b) (s : Shown n a b b') where
   shown_at : (k : ℕ) → k < n → get_or (take n b') k 0 ≡ byte (get_or a (k + 1) None)
@@ -36,7 +30,7 @@ module _ (n : ℕ) (a : List Value) (b b' : List ℕ) (listed : n < length a) (r
   front_is = ext_get_or 0 (take n b') (map byte (take n (drop 1 a))) (front_long ∙ sym values_long) (λ k l.
       let m : k < n = omega (arith, front_long) in
       let e : 1 + k ≡ k + 1 = omega arith in
-      shown_at k m ∙ sym (byte_at (take n (drop 1 a)) k ∙ ap byte (get_or-take n (drop 1 a) k None m ∙ get_or-drop 1 a k None ∙ ap (λ (z : ℕ). get_or a z None) e)))
+      shown_at k m ∙ sym (get_or-map byte (take n (drop 1 a)) k None ∙ ap byte (get_or-take n (drop 1 a) k None m ∙ get_or-drop 1 a k None ∙ ap (λ (z : ℕ). get_or a z None) e)))
 
   pub shown_fills : (cs : List (List ℤ)) → Model n cs (model_of n a) → Fills n cs (take n b')
   shown_fills cs m = record {

@@ -67,6 +67,7 @@ impl Board {
     }
 
     // Sets an open variable; leaves one that is set, or that there is not.
+    #[tactic(auto, using(crate::proofs::Puts::put_fewer))]
     pub fn put(&mut self, v: usize, value: Option<bool>)
         ensures { WasPut (assigned self.old) (trailed self.old) v value (assigned self.new) (trailed self.new) }
     {

@@ -1,7 +1,8 @@
 -- What is listed, as entries are added.
-use Rattle.std.proofs.Common.{◌≡◌, ℕ, zero, suc, ◌+◌, ◌<◌, ◌≤◌, ◌⊎◌, List, [], ◌∷◌, ◌++◌, length, get_or, take, set, replicate, ℤ, pos, negsuc, None, Some, Option, sym, refl, ap, ◌∙◌, subst, inl, inr, arith, length-set}
+use Rattle.std.proofs.Common.{◌≡◌, ℕ, zero, suc, ◌+◌, ◌<◌, ◌≤◌, ◌⊎◌, List, [], ◌∷◌, ◌++◌, length, get_or, take, set, replicate, ℤ, pos, negsuc, None, Some, Option, sym, refl, ap, ◌∙◌, subst, inl, inr, arith, length-set, length-take}
+use Rattle.std.proofs.Math.IntN.{ℤ_discrete}
 use Rattle.std.proofs.lemmas.Bool.{cases_eq, cases_lt}
-use Rattle.std.proofs.lemmas.List.{get_or_append_left, get_or_push, get_or-set_same, get_or-set_other, length_push, set_past, length-replicate}
+use Rattle.std.proofs.lemmas.List.{get_or_append_left, get_or_push, get_or-set_same, get_or-set_other, length_push, take_more, get_or-take, set_past, length-replicate}
 use Rattle.std.specs.Option.{ForSome}
 use Rattle.holder.specs.Widest.{variable}
 use Rattle.holder.specs.Clauses.{size}
@@ -11,15 +12,8 @@ use Rattle.propagation.specs.declared.index.Heads.{Heads}
 use Rattle.propagation.specs.Chains.{Chains, no_heads, no_entry, heads_at, entry_at, Leads, here, there, head, Lists, begins, begun, added, added_clause, added_all, no_chains, Falling, Starting, Good, Owned, Indexes}
 
 leads_more : (es : List Entry) (x : Entry) {from : Option ℕ} {i : ℕ} → Leads es from i → Leads (es ++ x ∷ []) from i
-leads_more es x (here q i l e) = here q i (let h = length_push es x in omega arith) (ap (λ (z : Entry). z.owner) (get_or_append_left es (x ∷ []) no_entry q l) ∙ e)
-leads_more es x (there q i l r) =
-    there q i (let h = length_push es x in omega arith) (subst (λ (z : Entry). Leads (es ++ x ∷ []) z.next i) (sym (get_or_append_left es (x ∷ []) no_entry q l)) (leads_more es x r))
-
-same_literal : (m l : ℤ) → (m ≡ l) ⊎ (m ≡ l → ⊥)
-same_literal (pos a) (pos b) = elim (cases_eq a b) [ inl e ↦ inl (ap pos e) | inr ne ↦ inr (λ e. let f : a ≡ b = cc in ne f) ]
-same_literal (pos a) (negsuc b) = inr (λ e. cc)
-same_literal (negsuc a) (pos b) = inr (λ e. cc)
-same_literal (negsuc a) (negsuc b) = elim (cases_eq a b) [ inl e ↦ inl (ap negsuc e) | inr ne ↦ inr (λ e. let f : a ≡ b = cc in ne f) ]
+leads_more es x (here q i l e) = here q i (omega (arith, length_push es x)) (rw get_or_append_left e)
+leads_more es x (there q i l r) = there q i (omega (arith, length_push es x)) (rw get_or_append_left (leads_more es x r))
 
 -- what is read after one place is set
 set_either : (hs : List Heads) (a v : ℕ) (h : Heads) → (v ≡ a) × (heads_at (set hs a h) v ≡ h) ⊎ (heads_at (set hs a h) v ≡ heads_at hs v)
@@ -36,27 +30,27 @@ kept f hs a v h e = elim (set_either hs a v h) [ inl k ↦ ap f k.1 ∙ e ∙ sy
 
 head_other : (s : Chains) (l m : ℤ) (i : ℕ) → (m ≡ l → ⊥) → head (added s l i) m ≡ head s m
 unfolding added
-head_other s (pos a) (pos b) i ne = ap (λ (z : Heads). z.positive) (get_or-set_other s.heads a b _ no_heads (λ e. ne (ap pos e)))
-head_other s (pos a) (negsuc b) i ne = kept (λ (z : Heads). z.negative) s.heads a (suc b) _ refl
-head_other s (negsuc a) (pos b) i ne = kept (λ (z : Heads). z.positive) s.heads (suc a) b _ refl
-head_other s (negsuc a) (negsuc b) i ne = ap (λ (z : Heads). z.negative) (get_or-set_other s.heads (suc a) (suc b) _ no_heads (λ e. let f : b ≡ a = omega arith in ne (ap negsuc f)))
+head_other s (pos a) (pos b) i ne = rw (get_or-set_other s.heads a b _ no_heads (λ e. ne (ap pos e)))
+head_other s (pos a) (negsuc b) i ne = kept (λ z. z.negative) s.heads a (suc b) _ refl
+head_other s (negsuc a) (pos b) i ne = kept (λ z. z.positive) s.heads (suc a) b _ refl
+head_other s (negsuc a) (negsuc b) i ne = rw (get_or-set_other s.heads (suc a) (suc b) _ no_heads (λ e. let f : b ≡ a = omega arith in ne (ap negsuc f)))
+
+head_here : (s : Chains) (l : ℤ) (i : ℕ) → variable l < length s.heads → head (added s l i) l ≡ Some (length s.entries)
+unfolding added
+head_here s (pos a) i w = rw (get_or-set_same s.heads a _ no_heads w)
+head_here s (negsuc a) i w = rw (get_or-set_same s.heads (suc a) _ no_heads w)
 
 -- the two lists after one entry more
-pub added_is : (s : Chains) (l : ℤ) (i v n : ℕ) (old new : Heads) (next : Option ℕ) (hs : List Heads) (es : List Entry) → v ≡ variable l → old ≡ heads_at s.heads v → n ≡ length s.entries → new ≡ begins old l n → next ≡ begun old l → hs ≡ set s.heads v new → es ≡ s.entries ++ record { owner = i; next = next } ∷ [] → ◌≡◌ {A = Chains} (record { heads = hs; entries = es }) (added s l i)
+pub added_is : (s : Chains) {l z : ℤ} (i : ℕ) {v n : ℕ} {old new : Heads} {link : Option ℕ} {es : List Entry} → z ≡ l → v ≡ variable z → old ≡ heads_at s.heads v → n ≡ length s.entries → new ≡ begins old z n → link ≡ begun old z → es ≡ s.entries ++ record { owner = i; next = link } ∷ [] → ◌≡◌ {A = Chains} (record { heads = set s.heads v new; entries = es }) (added s l i)
 unfolding added
-added_is s l i v n old new next hs es a b c d e f g =
-    let o : old ≡ heads_at s.heads (variable l) = b ∙ ap (heads_at s.heads) a in
-    let h : hs ≡ set s.heads (variable l) (begins (heads_at s.heads (variable l)) l (length s.entries)) = cc in
-    let x : next ≡ head s l = e ∙ ap (λ z. begun z l) o in
-    let k : es ≡ s.entries ++ record { owner = i; next = head s l } ∷ [] = g ∙ ap (λ z. s.entries ++ record { owner = i; next = z } ∷ []) x in
-    ap (λ (z : List Heads). record { heads = z; entries = es }) h ∙ ap (λ (z : List Entry). record { heads = set s.heads (variable l) (begins (heads_at s.heads (variable l)) l (length s.entries)); entries = z }) k
+added_is s i a b c d e f g = cc
 
 pub added_long : (s : Chains) (l : ℤ) (i : ℕ) → (length (added s l i).entries ≡ length s.entries + 1) × (length (added s l i).heads ≡ length s.heads)
 unfolding added
 added_long s l i = (length_push s.entries _, length-set s.heads (variable l) _)
 
 wider : (o : Option ℕ) (n : ℕ) → ForSome o (λ p. p < n) → ForSome o (λ p. p < n + 1)
-wider o n h p e = let k = h p e in omega arith
+wider o n h p e = omega (arith, h p e)
 
 the_new : (n : ℕ) → ForSome (Some n) (λ p. p < n + 1)
 the_new n p e = let f : n ≡ p = cc in omega arith
@@ -80,9 +74,9 @@ module _ (s : Chains) (l : ℤ) (i : ℕ) where
       let n = length s.entries in
       let a = variable l in
       let g = begins (heads_at s.heads a) l n in
-      subst (λ (k : ℕ). Below k (heads_at (set s.heads a g) v)) (sym (length_push s.entries _)) (elim (set_either s.heads a v g) [
-        | inl k ↦ subst (Below (n + 1)) (sym k.1) (begins_below n (heads_at s.heads a) l (h a))
-        | inr k ↦ subst (Below (n + 1)) (sym k) (wider _ n (h v).0, wider _ n (h v).1)
+      rw (length_push s.entries _) (elim (set_either s.heads a v g) [
+        | inl k ↦ rw k.1 (begins_below n (heads_at s.heads a) l (h a))
+        | inr k ↦ rw k (wider _ n (h v).0, wider _ n (h v).1)
       ])
 
   new_entry : entry_at (added s l i).entries (length s.entries) ≡ record { owner = i; next = head s l }
@@ -95,19 +89,17 @@ module _ (s : Chains) (l : ℤ) (i : ℕ) where
 
   pub added_falling : Starting s.heads (length s.entries) → Falling s.entries → Falling (added s l i).entries
   added_falling h f q w = let a = (added_long s l i).0 in elim (cases_lt q (length s.entries)) [
-    | inl b ↦ subst (λ (z : Entry). ForSome z.next (λ p. p < q)) (sym (old_entry q b)) (f q b)
-    | inr n ↦ (let e : length s.entries ≡ q = omega arith in subst (λ (z : ℕ). ForSome (entry_at (added s l i).entries z).next (λ p. p < z)) e (subst (λ (z : Entry). ForSome z.next (λ p. p < length s.entries)) (sym new_entry) (head_below s l (length s.entries) h)))
+    | inl b ↦ rw (old_entry q b) (f q b)
+    | inr n ↦ (let e : q ≡ length s.entries = omega arith in rw (e, new_entry) (head_below s l (length s.entries) h))
   ]
 
-module _ (s : Chains) (l : ℤ) (i places : ℕ) (good : Good places s) (within : variable l < places) where
-  head_here : head (added s l i) l ≡ Some (length s.entries)
-  unfolding added
-  head_here = here_at l (let e = good.long in omega arith)
-    where
-      here_at : (m : ℤ) → variable m < length s.heads → head (added s m i) m ≡ Some (length s.entries)
-      here_at (pos a) w = ap (λ (z : Heads). z.positive) (get_or-set_same s.heads a _ no_heads w)
-      here_at (negsuc a) w = ap (λ (z : Heads). z.negative) (get_or-set_same s.heads (suc a) _ no_heads w)
+-- t is s with entries more, of clauses below n
+pub record Gains (places n : ℕ) (s t : Chains) : Type 0 where
+  pub good : Good places t
+  pub grown : (m : ℤ) (j : ℕ) → Lists s m j → Lists t m j
+  pub owned : (count : ℕ) → n ≤ count → Owned count s → Owned count t
 
+module _ (s : Chains) (l : ℤ) (i places : ℕ) (good : Good places s) (within : variable l < places) where
   kept_leads : {from : Option ℕ} {j : ℕ} → Leads s.entries from j → Leads (added s l i).entries from j
   unfolding added
   kept_leads r = leads_more s.entries _ r
@@ -115,80 +107,61 @@ module _ (s : Chains) (l : ℤ) (i places : ℕ) (good : Good places s) (within 
   new_in : length s.entries < length (added s l i).entries
   new_in = let h = (added_long s l i).0 in omega arith
 
-  pub added_grown : (m : ℤ) (j : ℕ) → Lists s m j → Lists (added s l i) m j
-  added_grown m j r = elim (same_literal m l) [
-    | inl e ↦ (
-        let deeper : Leads (added s l i).entries (Some (length s.entries)) j =
-        there (length s.entries) j new_in (subst (λ (z : Option ℕ). Leads (added s l i).entries z j) (ap (head s) e ∙ sym (ap (λ (z : Entry). z.next) (new_entry s l i))) (kept_leads r)) in
-        subst (λ (z : Option ℕ). Leads (added s l i).entries z j) (sym (ap (head (added s l i)) e ∙ head_here)) deeper)
-    | inr ne ↦ subst (λ (z : Option ℕ). Leads (added s l i).entries z j) (sym (head_other s l m i ne)) (kept_leads r)
+  added_grown : (m : ℤ) (j : ℕ) → Lists s m j → Lists (added s l i) m j
+  added_grown m j r = elim (ℤ_discrete m l) [
+    | yes e ↦ rw (e, head_here s l i (omega (arith, good.long))) (there (length s.entries) j new_in (rw (new_entry s l i) (subst (λ z. Leads (added s l i).entries (head s z) j) e (kept_leads r))))
+    | no ne ↦ rw (head_other s l m i ne) (kept_leads r)
   ]
 
-  pub added_listed : Lists (added s l i) l i
-  added_listed = subst (λ (z : Option ℕ). Leads (added s l i).entries z i) (sym head_here) (here (length s.entries) i new_in (ap (λ (z : Entry). z.owner) (new_entry s l i)))
+  added_listed : Lists (added s l i) l i
+  added_listed = rw (head_here s l i (omega (arith, good.long))) (here (length s.entries) i new_in (ap (λ (z : Entry). z.owner) (new_entry s l i)))
 
-  pub added_good : Good places (added s l i)
+  added_good : Good places (added s l i)
   added_good = record { long = (added_long s l i).1 ∙ good.long; falling = added_falling s l i good.starts good.falling; starts = added_starts s l i good.starts }
 
-  pub added_owned : (count : ℕ) → i < count → Owned count s → Owned count (added s l i)
-  added_owned count h o q k = let a0 = (added_long s l i).0 in elim (cases_lt q (length s.entries)) [
-    | inl b ↦ (let e = ap (λ (z : Entry). z.owner) (old_entry s l i q b) in let f = o q b in omega arith)
-    | inr n ↦ (let e : q ≡ length s.entries = omega arith in let g = ap (λ (z : ℕ). (entry_at (added s l i).entries z).owner) e ∙ ap (λ (z : Entry). z.owner) (new_entry s l i) in omega arith)
+  added_owned : (count : ℕ) → suc i ≤ count → Owned count s → Owned count (added s l i)
+  added_owned count h o q k = let a = (added_long s l i).0 in elim (cases_lt q (length s.entries)) [
+    | inl b ↦ omega (arith, ap (λ (z : Entry). z.owner) (old_entry s l i q b), o q b)
+    | inr n ↦ (let e : q ≡ length s.entries = omega arith in omega (arith, ap (λ (z : ℕ). (entry_at (added s l i).entries z).owner) e, ap (λ (z : Entry). z.owner) (new_entry s l i)))
   ]
 
--- one clause more
-pub record Gains (places : ℕ) (s t : Chains) : Type 0 where
-  pub good : Good places t
-  pub grown : (m : ℤ) (j : ℕ) → Lists s m j → Lists t m j
+  added_gains : Gains places (suc i) s (added s l i)
+  added_gains = record { good = added_good; grown = added_grown; owned = added_owned }
 
-pub clause_gains : (places : ℕ) (s : Chains) (c : List ℤ) (i : ℕ) → Good places s → WithinClause places c → Gains places s (added_clause s c i)
-unfolding added_clause
-clause_gains places s [] i g w = record { good = g; grown = λ m j r. r }
-clause_gains places s (l ∷ c) i g w =
-    let h = clause_gains places (added s l i) c i (added_good s l i places g w.0) w.1 in
-    record { good = h.good; grown = λ m j r. h.grown m j (added_grown s l i places g w.0 m j r) }
+gains_none : {places n : ℕ} {s : Chains} → Good places s → Gains places n s s
+gains_none g = record { good = g; grown = λ m j r. r; owned = λ count h o. o }
 
-pub clause_listed : (places : ℕ) (s : Chains) (c : List ℤ) (i : ℕ) → Good places s → WithinClause places c → (k : ℕ) → k < length c → Lists (added_clause s c i) (get_or c k (pos 0)) i
-unfolding added_clause
-clause_listed places s [] i g w k h = absurd (let z : ⊥ = omega arith in z)
-clause_listed places s (l ∷ c) i g w zero h = (clause_gains places (added s l i) c i (added_good s l i places g w.0) w.1).grown l i (added_listed s l i places g w.0)
-clause_listed places s (l ∷ c) i g w (suc k) h = clause_listed places (added s l i) c i (added_good s l i places g w.0) w.1 k (omega arith)
+gains_trans : {places m n : ℕ} {s t u : Chains} → m ≤ n → Gains places m s t → Gains places n t u → Gains places n s u
+gains_trans l h k = record { good = k.good; grown = λ m j r. k.grown m j (h.grown m j r); owned = λ count e o. k.owned count e (h.owned count (omega arith) o) }
 
-pub clause_owned : (places count : ℕ) (s : Chains) (c : List ℤ) (i : ℕ) → Good places s → WithinClause places c → i < count → Owned count s → Owned count (added_clause s c i)
-unfolding added_clause
-clause_owned places count s [] i g w h o = o
-clause_owned places count s (l ∷ c) i g w h o = clause_owned places count (added s l i) c i (added_good s l i places g w.0) w.1 h (added_owned s l i places g w.0 count h o)
+module _ (places : ℕ) where
+  clause_gains : (s : Chains) (c : List ℤ) (i : ℕ) → Good places s → WithinClause places c → Gains places (suc i) s (added_clause s c i)
+  unfolding added_clause
+  clause_gains s [] i g w = gains_none g
+  clause_gains s (l ∷ c) i g w = let a = added_gains s l i places g w.0 in gains_trans (omega arith) a (clause_gains (added s l i) c i a.good w.1)
 
--- all clauses
-within_tail : (places : ℕ) (c : List ℤ) (cs : List (List ℤ)) → Within places (c ∷ cs) → Within places cs
-within_tail places c cs w i h = w (suc i) (omega arith)
+  clause_listed : (s : Chains) (c : List ℤ) (i : ℕ) → Good places s → WithinClause places c → (k : ℕ) → k < length c → Lists (added_clause s c i) (get_or c k (pos 0)) i
+  unfolding added_clause
+  clause_listed s [] i g w k h = absurd (let z : ⊥ = omega arith in z)
+  clause_listed s (l ∷ c) i g w zero h = (clause_gains (added s l i) c i (added_good s l i places g w.0) w.1).grown l i (added_listed s l i places g w.0)
+  clause_listed s (l ∷ c) i g w (suc k) h = clause_listed (added s l i) c i (added_good s l i places g w.0) w.1 k (omega arith)
 
-pub all_gains : (places : ℕ) (s : Chains) (cs : List (List ℤ)) (i : ℕ) → Good places s → Within places cs → Gains places s (added_all s cs i)
-unfolding added_all
-all_gains places s [] i g w = record { good = g; grown = λ m j r. r }
-all_gains places s (c ∷ cs) i g w =
-    let h = clause_gains places s c i g (w 0 (omega arith)) in
-    let k = all_gains places (added_clause s c i) cs (suc i) h.good (within_tail places c cs w) in
-    record { good = k.good; grown = λ m j r. k.grown m j (h.grown m j r) }
+  pub all_gains : (s : Chains) (cs : List (List ℤ)) (i : ℕ) → Good places s → Within places cs → Gains places (i + length cs) s (added_all s cs i)
+  unfolding added_all
+  all_gains s [] i g w = gains_none g
+  all_gains s (c ∷ cs) i g w =
+      let a = clause_gains s c i g (w 0 (omega arith)) in
+      let b = all_gains (added_clause s c i) cs (suc i) a.good (λ j h. w (suc j) (omega arith)) in
+      gains_trans (omega arith) a (record { good = b.good; grown = b.grown; owned = λ count e o. b.owned count (omega arith) o })
 
-all_listed : (places : ℕ) (s : Chains) (cs : List (List ℤ)) (i : ℕ) → Good places s → Within places cs → (j : ℕ) → j < length cs → (k : ℕ) → k < length (get_or cs j []) → Lists (added_all s cs i) (get_or (get_or cs j []) k (pos 0)) (i + j)
-unfolding added_all
-all_listed places s [] i g w j h k l = absurd (let z : ⊥ = omega arith in z)
-all_listed places s (c ∷ cs) i g w zero h k l =
-    let a = clause_gains places s c i g (w 0 (omega arith)) in
-    let e : i ≡ i + 0 = omega arith in
-    subst (λ (z : ℕ). Lists (added_all (added_clause s c i) cs (suc i)) (get_or c k (pos 0)) z) e ((all_gains places (added_clause s c i) cs (suc i) a.good (within_tail places c cs w)).grown (get_or c k (pos 0)) i (clause_listed places s c i g (w 0 (omega arith)) k l))
-all_listed places s (c ∷ cs) i g w (suc j) h k l =
-    let a = clause_gains places s c i g (w 0 (omega arith)) in
-    let e : suc i + j ≡ i + suc j = omega arith in
-    subst (λ (z : ℕ). Lists (added_all (added_clause s c i) cs (suc i)) (get_or (get_or cs j []) k (pos 0)) z) e (all_listed places (added_clause s c i) cs (suc i) a.good (within_tail places c cs w) j (omega arith) k l)
-
-all_owned : (places count : ℕ) (s : Chains) (cs : List (List ℤ)) (i : ℕ) → Good places s → Within places cs → i + length cs ≤ count → Owned count s → Owned count (added_all s cs i)
-unfolding added_all
-all_owned places count s [] i g w h o = o
-all_owned places count s (c ∷ cs) i g w h o =
-    let a = clause_gains places s c i g (w 0 (omega arith)) in
-    all_owned places count (added_clause s c i) cs (suc i) a.good (within_tail places c cs w) (omega arith) (clause_owned places count s c i g (w 0 (omega arith)) (omega arith) o)
+  all_listed : (s : Chains) (cs : List (List ℤ)) (i : ℕ) → Good places s → Within places cs → (j n : ℕ) → n ≡ i + j → j < length cs → (k : ℕ) → k < length (get_or cs j []) → Lists (added_all s cs i) (get_or (get_or cs j []) k (pos 0)) n
+  unfolding added_all
+  all_listed s [] i g w j n e h k l = absurd (let z : ⊥ = omega arith in z)
+  all_listed s (c ∷ cs) i g w zero n e h k l =
+      let a = clause_gains s c i g (w 0 (omega arith)) in
+      let f : i ≡ n = omega arith in
+      (all_gains (added_clause s c i) cs (suc i) a.good (λ j h. w (suc j) (omega arith))).grown _ n (subst (Lists (added_clause s c i) (get_or c k (pos 0))) f (clause_listed s c i g (w 0 (omega arith)) k l))
+  all_listed s (c ∷ cs) i g w (suc j) n e h k l = all_listed (added_clause s c i) cs (suc i) (clause_gains s c i g (w 0 (omega arith))).good (λ j h. w (suc j) (omega arith)) j n (omega arith) (omega arith) k l
 
 pub none_good : (places : ℕ) → Good places (no_chains places)
 none_good places = record {
@@ -206,11 +179,13 @@ none_good places = record {
     none_at (suc k) (suc v) = none_at k v
 
 pub all_indexes : (places : ℕ) (cs : List (List ℤ)) → Within places cs → Indexes cs places (added_all (no_chains places) cs 0)
-all_indexes places cs w = record {
-  good = (all_gains places (no_chains places) cs 0 (none_good places) w).good;
-  owned = all_owned places (length cs) (no_chains places) cs 0 (none_good places) w (omega arith) (λ q h. absurd (let z : ⊥ = omega arith in z));
-  all = λ i h k l. let e : 0 + i ≡ i = omega arith in subst (λ (z : ℕ). Lists (added_all (no_chains places) cs 0) (get_or (get_or cs i []) k (pos 0)) z) e (all_listed places (no_chains places) cs 0 (none_good places) w i h k l);
-}
+all_indexes places cs w =
+    let h = all_gains places (no_chains places) cs 0 (none_good places) w in
+    record {
+      good = h.good;
+      owned = h.owned (length cs) (omega arith) (λ q h. absurd (let z : ⊥ = omega arith in z));
+      all = λ i h k l. all_listed places (no_chains places) cs 0 (none_good places) w i i (omega arith) h k l;
+    }
 
 -- one more at the end
 pub clause_push : (s : Chains) (c : List ℤ) (l : ℤ) (i : ℕ) → added_clause s (c ++ l ∷ []) i ≡ added (added_clause s c i) l i
@@ -218,28 +193,28 @@ unfolding added_clause
 clause_push s [] l i = refl
 clause_push s (m ∷ c) l i = clause_push (added s m i) c l i
 
-pub all_push : (s : Chains) (cs : List (List ℤ)) (c : List ℤ) (i : ℕ) → added_all s (cs ++ c ∷ []) i ≡ added_clause (added_all s cs i) c (i + length cs)
+all_push : (s : Chains) (cs : List (List ℤ)) (c : List ℤ) (i : ℕ) → added_all s (cs ++ c ∷ []) i ≡ added_clause (added_all s cs i) c (i + length cs)
 unfolding added_all
-all_push s [] c i = let e : i ≡ i + 0 = omega arith in ap (added_clause s c) e
-all_push s (d ∷ cs) c i = let e : suc i + length cs ≡ i + suc (length cs) = omega arith in all_push (added_clause s d i) cs c (suc i) ∙ ap (added_clause (added_all (added_clause s d i) cs (suc i)) c) e
+all_push s [] c i = ap (added_clause s c) (let e : i ≡ i + 0 = omega arith in e)
+all_push s (d ∷ cs) c i = all_push (added_clause s d i) cs c (suc i) ∙ ap (added_clause (added_all (added_clause s d i) cs (suc i)) c) (let e : suc i + length cs ≡ i + suc (length cs) = omega arith in e)
 
-pub clause_none : (s : Chains) (i : ℕ) → added_clause s [] i ≡ s
-unfolding added_clause
-clause_none s i = refl
-
-pub all_none : (s : Chains) (i : ℕ) → added_all s [] i ≡ s
-unfolding added_all
-all_none s i = refl
+-- the next clause of a list
+pub all_more : (s : Chains) (cs : List (List ℤ)) (k : ℕ) {n i : ℕ} {c : List ℤ} → n ≡ k + 1 → k < length cs → i ≡ k → c ≡ get_or cs k [] → added_clause (added_all s (take k cs) 0) c i ≡ added_all s (take n cs) 0
+all_more s cs k n l e f =
+    let q : 0 + length (take k cs) ≡ k = omega (arith, length-take k cs) in
+    let t = take_more cs k [] l in
+    let p = all_push s (take k cs) (get_or cs k []) 0 in
+    cc
 
 pub clause_long : (s : Chains) (c : List ℤ) (i : ℕ) → length (added_clause s c i).entries ≡ length s.entries + length c
 unfolding added_clause
 clause_long s [] i = omega arith
-clause_long s (l ∷ c) i = let h = clause_long (added s l i) c i in let a = (added_long s l i).0 in omega arith
+clause_long s (l ∷ c) i = omega (arith, clause_long (added s l i) c i, (added_long s l i).0)
 
 pub size-take : (cs : List (List ℤ)) (i : ℕ) → i < length cs → size (take i cs) + length (get_or cs i []) ≤ size cs
 size-take [] i h = absurd (let z : ⊥ = omega arith in z)
 size-take (c ∷ cs) zero h = omega arith
-size-take (c ∷ cs) (suc i) h = let r = size-take cs i (omega arith) in omega arith
+size-take (c ∷ cs) (suc i) h = omega (arith, size-take cs i (omega arith))
 
 pub clause_heads : (s : Chains) (c : List ℤ) (i : ℕ) → length (added_clause s c i).heads ≡ length s.heads
 unfolding added_clause
@@ -249,13 +224,10 @@ clause_heads s (l ∷ c) i = clause_heads (added s l i) c i ∙ (added_long s l 
 pub all_long : (s : Chains) (cs : List (List ℤ)) (i : ℕ) → length (added_all s cs i).entries ≡ length s.entries + size cs
 unfolding added_all
 all_long s [] i = omega arith
-all_long s (c ∷ cs) i = let h = all_long (added_clause s c i) cs (suc i) in let k = clause_long s c i in omega arith
+all_long s (c ∷ cs) i = omega (arith, all_long (added_clause s c i) cs (suc i), clause_long s c i)
 
 pub all_within_take : (places : ℕ) (cs : List (List ℤ)) (k : ℕ) → Within places cs → Within places (take k cs)
-all_within_take places cs zero w i h = absurd (let z : ⊥ = omega arith in z)
-all_within_take places [] (suc k) w i h = absurd (let z : ⊥ = omega arith in z)
-all_within_take places (c ∷ cs) (suc k) w zero h = w 0 (omega arith)
-all_within_take places (c ∷ cs) (suc k) w (suc i) h = all_within_take places cs k (within_tail places c cs w) i (omega arith)
+all_within_take places cs k w i h = let l = length-take k cs in rw (get_or-take k cs i [] (omega arith)) (w i (omega arith))
 
 pub within_at : (n : ℕ) (c : List ℤ) → WithinClause n c → (k : ℕ) → k < length c → variable (get_or c k (pos 0)) < n
 within_at n [] w k l = absurd (let z : ⊥ = omega arith in z)

@@ -13,8 +13,8 @@ pub record Come (cs : List (List ℤ)) (a : List Value) (ts : List ℕ) (b : Lis
   pub run : Forcing cs a b
   pub back : Back a ts b us
 
-pub come_none : (cs : List (List ℤ)) (a : List Value) (ts : List ℕ) → Come cs a ts a ts
-come_none cs a ts = record { run = rest; back = back_none a ts }
+pub come_none : {cs : List (List ℤ)} {a : List Value} {ts : List ℕ} → Come cs a ts a ts
+come_none = record { run = rest; back = back_none }
 
 module _ (cs : List (List ℤ)) (b : List Value) (l : ℤ) (f : Forced cs b l) (v : ℕ) (x : Value) (named : v ≡ variable l) (signed : x ≡ sign l) where
   pub forced_open : get_or b v None ≡ None
@@ -30,4 +30,4 @@ module _ (cs : List (List ℤ)) (b : List Value) (l : ℤ) (f : Forced cs b l) (
   come_more a ts us r =
       let same : holding b l ≡ set b v x = ap (λ (z : ℕ). set b z (sign l)) (sym named) ∙ ap (set b v) (sym signed) in
       let one : Forcing cs b (set b v x) = subst (λ (z : List Value). Forcing cs b z) same (next l f rest) in
-      record { run = forcing_more cs r.run one; back = back_put a ts b us r.back v x forced_open }
+      record { run = forcing_more cs r.run one; back = back_put r.back v x forced_open }

@@ -1,10 +1,11 @@
 -- Assignments that say more.
-use Rattle.std.proofs.Common.{◌≡◌, ℕ, suc, ◌<◌, ◌≤◌, cond, List, [], ◌∷◌, length, get_or, set, ℤ, pos, negsuc, sym, refl, ap, ◌∙◌, subst, inl, inr, None, Some, true, false, Bool}
+use Rattle.std.proofs.Common.{◌≡◌, ℕ, suc, ◌<◌, ◌≤◌, cond, List, [], ◌∷◌, length, get_or, set, replicate, arith, ℤ, pos, negsuc, sym, refl, ap, ◌∙◌, subst, inl, inr, None, Some, true, false, Bool}
 use Rattle.std.proofs.lemmas.Bool.{cases_eq, cases_lt}
-use Rattle.std.proofs.lemmas.List.{get_or-set_same, get_or-set_other, set_past, ext_get_or}
+use Rattle.std.proofs.lemmas.List.{get_or-set_same, get_or-set_other, set_past, ext_get_or, get_or-replicate, get_or_past, length-replicate}
 use Rattle.trials.specs.Values.{Value, flip, value, is_false, sign, holding}
 use Rattle.holder.specs.Widest.{variable}
 use Rattle.trials.specs.Forcing.{live}
+use Rattle.trials.specs.Exist.{flip_open}
 
 -- what a says, b says too
 abbrev pub Below : List Value → List Value → Type 0
@@ -28,19 +29,15 @@ pub below_trans : (a b c : List Value) → Below a b → Below b c → Below a c
 below_trans a b c f g v x e s = g v x (f v x e s) s
 
 module _ (a b : List Value) (less : Below a b) where
-  pub below_false : (l : ℤ) → value a l ≡ Some false → value b l ≡ Some false
-  below_false (pos n) e = less n (Some false) e set_not_open
-  below_false (negsuc n) e = ap flip (less (suc n) (Some true) (flip_back (get_or a (suc n) None) (Some false) e) set_not_open)
-
-  pub below_true : (l : ℤ) → value a l ≡ Some true → value b l ≡ Some true
-  below_true (pos n) e = less n (Some true) e set_not_open
-  below_true (negsuc n) e = ap flip (less (suc n) (Some false) (flip_back (get_or a (suc n) None) (Some true) e) set_not_open)
+  pub below_value : (l : ℤ) (x : Value) → value a l ≡ x → (x ≡ None → ⊥) → value b l ≡ x
+  below_value (pos n) x e s = less n x e s
+  below_value (negsuc n) x e s = ap flip (less (suc n) (flip x) (flip_back (get_or a (suc n) None) x e) (λ o. s (flip_open x o))) ∙ flip_twice x
 
   live_head : (l : ℤ) (c : List ℤ) → live b (live a c) ≡ live b c → (x : Value) → value a l ≡ x → live b (live a (l ∷ c)) ≡ live b (l ∷ c)
   unfolding live
-  live_head l c h None e = rw e (ap (λ z. cond (is_false (value b l)) z (l ∷ z)) h)
-  live_head l c h (Some true) e = rw e (ap (λ z. cond (is_false (value b l)) z (l ∷ z)) h)
-  live_head l c h (Some false) e = rw (e, below_false l e) h
+  live_head l c h None e = rw (e, h)
+  live_head l c h (Some true) e = rw (e, h)
+  live_head l c h (Some false) e = rw (e, below_value l (Some false) e set_not_open) h
 
   -- what is live in b, is live in a
   pub live_below : (c : List ℤ) → live b (live a c) ≡ live b c
@@ -56,22 +53,21 @@ sign_true b (negsuc n) e = flip_back (get_or b (suc n) None) (Some true) e
 pub below_set : (a b : List Value) (w : ℕ) (y : Value) → Below a b → get_or b w None ≡ y → Below (set a w y) b
 below_set a b w y h e v x g s =
     elim (cases_eq v w) [
-      | inl i ↦ elim (cases_lt v (length a)) [
-        | inl less ↦ subst (λ (k : ℕ). get_or b k None ≡ x) (sym i) (e ∙ sym (get_or-set_same a w y None (subst (λ (k : ℕ). k < length a) i less)) ∙ subst (λ (k : ℕ). get_or (set a w y) k None ≡ x) i g)
-        | inr past ↦ h v x (sym (ap (λ (z : List Value). get_or z v None) (set_past a w y (subst (λ (k : ℕ). length a ≤ k) i past))) ∙ g) s
+      | inl i ↦ elim (cases_lt w (length a)) [
+        | inl l ↦ rw i (e ∙ sym (get_or-set_same a w y None l) ∙ (rw i at g))
+        | inr p ↦ h v x (rw (set_past a w y p) at g) s
       ]
-      | inr ne ↦ h v x (sym (get_or-set_other a w v y None ne) ∙ g) s
+      | inr ne ↦ h v x (rw (get_or-set_other a w v y None ne) at g) s
     ]
 
 pub below_holding : (a b : List Value) (l : ℤ) → Below a b → value b l ≡ Some true → Below (holding a l) b
 below_holding a b l h e = below_set a b (variable l) (sign l) h (sign_true b l e)
 
-pub holding_below : (a : List Value) (l : ℤ) → get_or a (variable l) None ≡ None → Below a (holding a l)
-holding_below a l o v x e s =
-    elim (cases_eq v (variable l)) [
-      | inl i ↦ absurd (s (sym e ∙ subst (λ (k : ℕ). get_or a k None ≡ None) (sym i) o))
-      | inr ne ↦ get_or-set_other a (variable l) v (sign l) None ne ∙ e
-    ]
+pub below_put : (a : List Value) (v : ℕ) (x : Value) → get_or a v None ≡ None → Below a (set a v x)
+below_put a v x o w y e s = elim (cases_eq w v) [
+  | inl i ↦ absurd (s (sym e ∙ rw (i, o)))
+  | inr ne ↦ get_or-set_other a v w x None ne ∙ e
+]
 
 same_value : (x y : Value) → ((z : Value) → x ≡ z → (z ≡ None → ⊥) → y ≡ z) → ((z : Value) → y ≡ z → (z ≡ None → ⊥) → x ≡ z) → x ≡ y
 same_value None None f g = refl
@@ -80,3 +76,6 @@ same_value (Some b) y f g = sym (f (Some b) refl set_not_open)
 
 pub below_both : (a b : List Value) → length a ≡ length b → Below a b → Below b a → a ≡ b
 below_both a b e f g = ext_get_or None a b e (λ i l. same_value (get_or a i None) (get_or b i None) (f i) (g i))
+
+pub replicate_at : {X : Type 0} (k i : ℕ) (x : X) → get_or (replicate k x) i x ≡ x
+replicate_at k i x = elim (cases_lt i k) [ inl l ↦ get_or-replicate k i x x l | inr p ↦ get_or_past (replicate k x) i x (omega (arith, length-replicate k x)) ]

@@ -4,12 +4,12 @@ use Rattle.trials.specs.Values.{Value, value, sign, holding}
 use Rattle.holder.specs.Widest.{variable}
 use Rattle.trials.specs.Forcing.{live, Conflict, Forced, Forcing, rest, next, Maximal, Quiet, Confluent}
 use Rattle.trials.specs.Exist.{open_at}
-use Rattle.trials.proofs.Below.{Below, below_none, below_trans, live_below, below_holding, holding_below, below_both}
+use Rattle.trials.proofs.Below.{Below, below_none, below_trans, live_below, below_holding, below_put, below_both}
 
 module _ (cs : List (List ℤ)) where
   pub forcing_below : {a b : List Value} → Forcing cs a b → Below a b
   forcing_below {a} rest = below_none a
-  forcing_below {a} {b} (next l f r) = below_trans a (holding a l) b (holding_below a l (open_at a l f.opened)) (forcing_below r)
+  forcing_below {a} {b} (next l f r) = below_trans a (holding a l) b (below_put a (variable l) (sign l) (open_at a l f.opened)) (forcing_below r)
 
   pub forcing_long : {a b : List Value} → Forcing cs a b → length b ≡ length a
   forcing_long rest = refl

@@ -2,6 +2,7 @@
 use Rattle.std.proofs.Common.{◌≡◌, ℕ, zero, suc, ◌+◌, ◌-◌, ◌<◌, ◌≤◌, Bool, true, false, cond, not, T, ltb, leb, ◌⊎◌, List, [], ◌∷◌, map, length, get_or, take, drop, replicate, ℤ, pos, negsuc, Some, None, sym, refl, ap, ◌∙◌, subst, inl, inr, arith, length-drop, length-set, length-take}
 use lib.ListN.{length-replicate}
 use Rattle.std.proofs.lemmas.Bool.{and_parts, or_parts, or_left, or_right, or_cases, both_ways, cases_Bool, not-true, ltb-true, cond-true, cond-false}
+use Rattle.std.proofs.Math.ListN.{get_or-map}
 use Rattle.std.proofs.lemmas.List.{get_or-take, get_or-drop, length-map}
 use Rattle.trials.specs.Values.{Value, flip, value, is_false, is_true, model_of}
 use Rattle.refusals.specs.Limits.{most_variables}
@@ -15,7 +16,7 @@ use Rattle.trials.specs.Forcing.{live, Forcing, Quiet}
 use Rattle.trials.specs.Courses.{Complete, Course, fails, ends, tries, found, ended}
 use Rattle.trials.specs.Trials.{Says}
 use Rattle.trials.specs.Exist.{open_at}
-use Rattle.trials.proofs.Below.{Below, below_set, flip_back, set_not_open}
+use Rattle.trials.proofs.Below.{Below, below_set, replicate_at, flip_back, set_not_open}
 use Rattle.trials.proofs.Confluence.{along, conflict_below, forcing_long, quiet_maximal, quiet_free}
 
 -- the literals of a clause are over the variables 1 to n
@@ -27,7 +28,7 @@ abbrev pub AllProper : ℕ → List (List ℤ) → Type 0
 AllProper n cs = (i : ℕ) → i < length cs → Proper n (get_or cs i [])
 
 literal_low : (l : ℤ) → literal_fine l ≡ true → 1 ≤ variable l
-literal_low (pos n) h = let e = ltb-true 0 n (and_parts (ltb 0 n) (leb n most_variables) h).0 in omega arith
+literal_low (pos n) h = grind arith
 literal_low (negsuc n) h = omega arith
 
 pub proper : (n : ℕ) (c : List ℤ) → all_fine c ≡ true → widest_of c ≤ n → Proper n c
@@ -53,17 +54,12 @@ each_from : (m : List Bool) (cs : List (List ℤ)) → ((i : ℕ) → i < length
 each_from m [] h = tt
 each_from m (c ∷ cs) h = (T-from (any (valued m) c) (h 0 (omega arith)), each_from m cs (λ i l. h (suc i) (omega arith)))
 
-true_at : (xs : List Value) (k : ℕ) → get_or (map is_true xs) k false ≡ is_true (get_or xs k None)
-true_at [] k = refl
-true_at (x ∷ xs) zero = refl
-true_at (x ∷ xs) (suc k) = true_at xs k
-
 -- what a complete assignment without conflict says, is a model
 module _ (n : ℕ) (b : List Value) (full : Complete n b) where
   value_at : (k : ℕ) → 1 ≤ k → k ≤ n → get_or (model_of n b) (k - 1) false ≡ is_true (get_or b k None)
   value_at k l h =
       let e : 1 + (k - 1) ≡ k = omega arith in
-      true_at (take n (drop 1 b)) (k - 1) ∙ ap is_true (get_or-take n (drop 1 b) (k - 1) None (omega arith) ∙ get_or-drop 1 b (k - 1) None ∙ ap (λ (z : ℕ). get_or b z None) e)
+      get_or-map is_true (take n (drop 1 b)) (k - 1) None ∙ ap is_true (get_or-take n (drop 1 b) (k - 1) None (omega arith) ∙ get_or-drop 1 b (k - 1) None ∙ ap (λ (z : ℕ). get_or b z None) e)
 
   true_holds : (l : ℤ) → 1 ≤ variable l → variable l ≤ n → value b l ≡ Some true → valued (model_of n b) l ≡ true
   true_holds (pos k) low high e = value_at k low high ∙ ap is_true e
@@ -99,25 +95,18 @@ told b = cond b (Some true) (Some false)
 abbrev pub of_model : List Bool → List Value
 of_model m = None ∷ map told m
 
-told_at : (m : List Bool) (k : ℕ) → k < length m → get_or (map told m) k None ≡ told (get_or m k false)
-told_at [] k l = absurd (let w : ⊥ = omega arith in w)
-told_at (x ∷ m) zero l = refl
-told_at (x ∷ m) (suc k) l = told_at m k (omega arith)
-
 module _ (n : ℕ) (m : List Bool) (long : length m ≡ n) where
+  told_at : (k : ℕ) → k < n → get_or (of_model m) (suc k) None ≡ told (get_or m k false)
+  told_at k l = Rattle.std.proofs.lemmas.List.get_or-map told m k false None (omega arith)
+
   holds_told : (l : ℤ) → 1 ≤ variable l → variable l ≤ n → valued m l ≡ true → value (of_model m) l ≡ Some true
   holds_told (pos zero) low high h = absurd (let w : ⊥ = omega arith in w)
-  holds_told (pos (suc k)) low high h =
-      let g : suc k - 1 ≡ k = omega arith in
-      told_at m k (omega arith) ∙ ap (λ b. cond b (Some true) (Some false)) (subst (λ (z : ℕ). get_or m z false ≡ true) g h)
-  holds_told (negsuc k) low high h = ap flip (told_at m k (omega arith) ∙ ap (λ b. cond b (Some true) (Some false)) (not-true _ h))
+  holds_told (pos (suc k)) low high h = told_at k (omega arith) ∙ ap told (let g : k ≡ suc k - 1 = omega arith in ap (λ z. get_or m z false) g ∙ h)
+  holds_told (negsuc k) low high h = ap flip (told_at k (omega arith) ∙ ap told (not-true _ h))
 
   told_set : (v : ℕ) → 1 ≤ v → v ≤ n → (get_or (of_model m) v None ≡ Some true) ⊎ (get_or (of_model m) v None ≡ Some false)
   told_set zero low high = absurd (let w : ⊥ = omega arith in w)
-  told_set (suc k) low high = elim (cases_Bool (get_or m k false)) [
-    | inl e ↦ inl (told_at m k (omega arith) ∙ ap (λ b. cond b (Some true) (Some false)) e)
-    | inr e ↦ inr (told_at m k (omega arith) ∙ ap (λ b. cond b (Some true) (Some false)) e)
-  ]
+  told_set (suc k) low high = elim (cases_Bool (get_or m k false)) [ inl e ↦ inl (told_at k (omega arith) ∙ ap told e) | inr e ↦ inr (told_at k (omega arith) ∙ ap told e) ]
 
   -- a clause that holds has a literal that is true, so that it is calm
   abbrev Lively : List ℤ → Type 0
@@ -125,17 +114,11 @@ module _ (n : ℕ) (m : List Bool) (long : length m ≡ n) where
 
   lively_true : (l : ℤ) (c : List ℤ) → value (of_model m) l ≡ Some true → Lively (l ∷ c)
   unfolding live
-  lively_true l c e = (
-    λ d. let f : l ∷ live (of_model m) c ≡ [] = rw e at d in cc,
-    λ k d. let f : l ∷ live (of_model m) c ≡ k ∷ [] = rw e at d in let g : l ≡ k = cc in subst (λ (z : ℤ). value (of_model m) z ≡ Some true) g e,
-  )
+  lively_true l c e = (λ d. let f = rw e at d in cc, λ k d. let f = rw e at d in let g : l ≡ k = cc in rw (← g) e)
 
   live_on : (l : ℤ) (c : List ℤ) → is_false (value (of_model m) l) ≡ false → Lively c → Lively (l ∷ c)
   unfolding live
-  live_on l c e h = (
-    λ d. let f : l ∷ live (of_model m) c ≡ [] = rw e at d in cc,
-    λ k d. let f : l ∷ live (of_model m) c ≡ k ∷ [] = rw e at d in let g : live (of_model m) c ≡ [] = cc in absurd (h.0 g),
-  )
+  live_on l c e h = (λ d. let f = rw e at d in cc, λ k d. let f = rw e at d in absurd (h.0 (cc)))
 
   lively_more : (l : ℤ) (c : List ℤ) → Lively c → (x : Value) → value (of_model m) l ≡ x → Lively (l ∷ c)
   unfolding live
@@ -173,12 +156,7 @@ module _ (n : ℕ) (m : List Bool) (long : length m ≡ n) where
         ]
 
 pub blank_below : (k : ℕ) (b : List Value) → Below (replicate k None) b
-blank_below k b v x e s = absurd (s (sym e ∙ blank_at k v))
-  where
-    blank_at : (k v : ℕ) → get_or {A = Value} (replicate k None) v None ≡ None
-    blank_at zero v = refl
-    blank_at (suc k) zero = refl
-    blank_at (suc k) (suc v) = blank_at k v
+blank_below k b v x e s = absurd (s (sym e ∙ replicate_at k v None))
 
 -- a search that finds nothing
 pub no_model : (cs : List (List ℤ)) (n : ℕ) → AllProper n cs → (k : ℕ) (q : Course cs n (replicate k None)) → found q ≡ false → (m : List Bool) → Model n cs m → ⊥
@@ -194,11 +172,8 @@ ended_model cs n p (tries b v f q o t u) l =
     let x = ended_model cs n p t (let j = length-set b v (Some true) in omega arith) in
     let y = ended_model cs n p u (let j = length-set b v (Some false) in omega arith) in
     elim (cases_Bool (found t)) [
-      | inl e ↦ (λ _. let r = x.0 e in (r.0, cond-true (found t) (ended t) (ended u) e ∙ r.1, r.2), λ h. absurd (both_ways (found t) (or_parts _ _ h).0 e))
-      | inr e ↦ (
-        λ h. let r = y.0 (elim (or_cases _ _ h) [ inl w ↦ absurd (both_ways (found t) e w) | inr w ↦ w ]) in (r.0, cond-false (found t) (ended t) (ended u) e ∙ r.1, r.2),
-        λ h. cond-false (found t) (ended t) (ended u) e ∙ y.1 (or_parts _ _ h).1,
-      )
+      | inl e ↦ (λ _. rw e (x.0 e), λ h. absurd (both_ways (found t) (or_parts _ _ h).0 e))
+      | inr e ↦ (λ h. rw e (y.0 (rw e at h)), λ h. rw e (y.1 (rw e at h)))
     ]
 
 pub says : (cs : List (List ℤ)) (n : ℕ) → AllProper n cs → (k : ℕ) → n < k → (q : Course cs n (replicate k None)) → Says n cs (ended q)

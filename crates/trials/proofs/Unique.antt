@@ -64,13 +64,7 @@ module _ (cs : List (List ℤ)) (n : ℕ) where
       let s = split b f k v o q in
       let i = one_course t s.on in
       let j = one_course u s.off in
-      let i0 = i.0 in
-      let i1 = i.1 in
-      let j0 = j.0 in
-      let j1 = j.1 in
-      let x : (found t || found u) ≡ (found s.on || found s.off) = cc in
-      let y : cond (found t) (1 + tried t) (2 + (tried t + tried u)) ≡ cond (found s.on) (1 + tried s.on) (2 + (tried s.on + tried s.off)) = cc in
-      (x ∙ sym s.finds, y ∙ sym s.counts)
+      (cc (i.0, j.0, s.finds), cc (i.0, i.1, j.1, s.counts))
 
   pub one_end : {a : List Value} (p q : Course cs n a) → ended p ≡ ended q
   unfolding ended
@@ -78,8 +72,4 @@ module _ (cs : List (List ℤ)) (n : ℕ) where
   one_end (ends b f k e) q = sym (finished b f k e q).2
   one_end (tries b v f k o t u) q =
       let s = split b f k v o q in
-      let i = (one_course t s.on).0 in
-      let x = one_end t s.on in
-      let y = one_end u s.off in
-      let z : cond (found t) (ended t) (ended u) ≡ cond (found s.on) (ended s.on) (ended s.off) = cc in
-      z ∙ sym s.comes
+      cc ((one_course t s.on).0, one_end t s.on, one_end u s.off, s.comes)

@@ -1,96 +1,91 @@
-use Rattle.std.proofs.Common.{◌≡◌, ℕ, ◌+◌, ◌≤◌, inl, inr, List, [], ◌∷◌, length, get_or, None, Some, slice_get, sym, ap, ◌∙◌, subst, arith, w32, SFits, rules}
+use Rattle.std.proofs.Common.{◌≡◌, ◌+◌, ◌<◌, ◌≤◌, inl, inr, ℕ, List, [], ◌∷◌, length, get_or, None, Some, slice_get, sym, ap, ◌∙◌, subst, arith, w32, SFits, rules}
 use Rattle.std.proofs.lemmas.Int.{to_z-of_z}
 use Rattle.std.proofs.lemmas.Option.{slice_get_cases, slice_get_within}
 use Rattle.holder.specs.Widest.{variable}
 use Rattle.clause_store.specs.Made.{stood_of}
-use Rattle.trials.specs.Values.{Value, value, sign}
+use Rattle.trials.specs.Values.{value, sign}
 use Rattle.trials.specs.Exist.{Within}
 use Rattle.trials.specs.Forcing.{live, Calm}
 use Rattle.forcing.specs.Boards.{assigned, trailed}
-use Rattle.propagation.proofs.Steps.{come_none}
+use Rattle.propagation.proofs.Steps.{Come, come_none}
 use Rattle.propagation.proofs.Puts.{judged, step}
 use Rattle.propagation.proofs.Waiting.{awake_end, awake_visited, awake_quiet}
-use Rattle.propagation.proofs.Turning.{turning, depth_falls, owner_below}
+use Rattle.propagation.proofs.Turning.{Turning, turning, depth_falls, owner_below}
 use Rattle.propagation.proofs.Comes.{come_trans}
 use Rattle.propagation.specs.Chains.{entry_of}
 use Rattle.propagation.specs.Made.{chains}
-use Rattle.propagation.specs.Waits.{against}
+use Rattle.propagation.specs.Waits.{Ready, against}
+use Rattle.propagation.proofs.propagate.propagate.Goals.{In-Some, In-Some-entry, After-against-link}
 use Rattle.propagation.proofs.propagate.propagate.Goals as goal
 
+-- the variable of the queue
+queued : (c : In-Some) → slice_get (trailed c.queue.board) c.queue.from ≡ Some c.in-Some.v
+queued c = sym c.set_at.ensures ∙ c.in-Some.is
+
+in_queue : (c : In-Some) → c.queue.from < length (trailed c.queue.board)
+in_queue c = slice_get_within _ _ _ (queued c)
+
+-- its chain
+turned : (c : After-against-link) → Ready (stood_of c.args.store.now).held (chains c.args.index.now) (assigned c.args.board.now) (trailed c.args.board.now) c.args.start → Turning (stood_of c.args.store.now).held (chains c.args.index.now) (assigned c.queue.board) (trailed c.queue.board) (c.queue.from + 1) c.against-link.result
+turned c rd =
+    let q = c.queue.invariant rd in
+    let k : slice_get (trailed c.queue.board) c.queue.from ≡ Some c.in-Some.v = sym c.set_at.ensures ∙ c.in-Some.is in
+    turning _ _ _ _ _ rd _ _ _ q.0 q.2 (slice_get_within _ _ _ k) c.in-Some.v _ k (c.against-link.ensures ∙ ap (against (chains c.args.index.now) c.in-Some.v) (c.value_at.ensures ∙ ap (λ z. get_or z c.in-Some.v None) c.values.ensures))
+
+-- the clause of the chain
+linked : (c : In-Some-entry) → entry_of (chains c.args.index.now) c.chain.link ≡ Some c.in-Some-entry.entry
+linked c = sym c.entry.ensures ∙ c.in-Some-entry.is
+
 pub queue-init : goal.queue-init
-queue-init c rd = (come_none (stood_of c.args.store.now).held (assigned c.args.board.now) (trailed c.args.board.now), rd.low, rd.awake)
+queue-init c rd = (come_none, rd.low, rd.awake)
 
 pub overflow_add-from : goal.overflow_add-from
-overflow_add-from c = let w = slice_get_within (trailed c.queue.board) c.queue.from c.in-Some.v (sym c.set_at.ensures ∙ c.in-Some.is) in search rules
+overflow_add-from c = let w = in_queue (goal.at.overflow_add-from c).In-Some in search rules
+
+pub queue-smaller : goal.queue-smaller
+queue-smaller c = omega (arith, in_queue (goal.at.queue-smaller c).In-Some, c.queue.board.few, c.queue.board.trail.ok)
 
 pub chain-init : goal.chain-init
-chain-init c t = (come_none (stood_of c.args.store.now).held (assigned c.queue.board) (trailed c.queue.board), t.low, t.awake)
+chain-init c t = (come_none, t.low, t.awake)
 
 pub queue-preserved : goal.queue-preserved
 queue-preserved c rd =
-    let cs = (stood_of c.args.store.now).held in
-    let s = chains c.args.index.now in
-    let us1 = trailed c.queue.board in
-    let v = c.in-Some.v in
-    let q = c.queue.invariant rd in
-    let put : slice_get us1 c.queue.from ≡ Some v = sym c.set_at.ensures ∙ c.in-Some.is in
-    let t = turning cs s _ _ c.args.start rd _ us1 c.queue.from q.0 q.2 (slice_get_within us1 c.queue.from v put) v c.against-link.result put (c.against-link.ensures ∙ ap (against s v) (c.value_at.ensures ∙ ap (λ (z : List Value). get_or z v None) c.values.ensures)) in
-    let m = c.chain.invariant t in
-    (come_trans cs _ _ _ us1 _ _ q.0 m.0, m.1, awake_end cs s.entries _ _ (c.queue.from + 1) c.chain.link (sym c.entry.ensures ∙ c.in_default-entry.is) m.2)
-
-pub queue-smaller : goal.queue-smaller
-queue-smaller c = let w = slice_get_within (trailed c.queue.board) c.queue.from c.in-Some.v (sym c.set_at.ensures ∙ c.in-Some.is) in omega (arith, c.queue.board.few, c.queue.board.trail.ok)
+    let m = c.chain.invariant (turned (goal.at.queue-preserved c).After-against-link rd) in
+    (come_trans (c.queue.invariant rd).0 m.0, m.1, awake_end _ _ _ _ _ c.chain.link (sym c.entry.ensures ∙ c.in_default-entry.is) m.2)
 
 pub chain-smaller : goal.chain-smaller
-chain-smaller c = depth_falls (chains c.args.index.now).entries c.args.index.now.falling c.chain.link c.in-Some-entry.entry (sym c.entry.ensures ∙ c.in-Some-entry.is)
+chain-smaller c = depth_falls _ c.args.index.now.falling _ _ (linked (goal.at.chain-smaller c).In-Some-entry)
 
 pub chain-smaller-in-Forces : goal.chain-smaller-in-Forces
-chain-smaller-in-Forces c = depth_falls (chains c.args.index.now).entries c.args.index.now.falling c.chain.link c.in-Some-entry.entry (sym c.entry.ensures ∙ c.in-Some-entry.is)
+chain-smaller-in-Forces c = depth_falls _ c.args.index.now.falling _ _ (linked (goal.at.chain-smaller-in-Forces c).In-Some-entry)
 
 pub chain-preserved : goal.chain-preserved
 chain-preserved c t =
-    let cs = (stood_of c.args.store.now).held in
-    let s = chains c.args.index.now in
     let m = c.chain.invariant t in
-    let e : entry_of s c.chain.link ≡ Some c.in-Some-entry.entry = sym c.entry.ensures ∙ c.in-Some-entry.is in
-    (m.0, m.1, awake_visited cs s.entries _ _ (c.queue.from + 1) c.chain.link c.in-Some-entry.entry e (judged Calm c.values-in-Some-entry.ensures c.clause.ensures c.in-Calm.ensures) m.2)
+    (m.0, m.1, awake_visited _ _ _ _ _ _ _ (linked (goal.at.chain-preserved c).In-Some-entry) (judged Calm c.values-in-Some-entry.ensures c.clause.ensures c.in-Calm.ensures) m.2)
 
 pub chain-preserved-in-Forces : goal.chain-preserved-in-Forces
 chain-preserved-in-Forces c t =
     let cs = (stood_of c.args.store.now).held in
-    let s = chains c.args.index.now in
     let m = c.chain.invariant t in
     let b = assigned c.chain.board in
-    let us = trailed c.chain.board in
     let x = c.in-Some-entry.entry in
-    let e : entry_of s c.chain.link ≡ Some x = sym c.entry.ensures ∙ c.in-Some-entry.is in
-    let held = owner_below (length cs) s t.indexed.owned c.chain.link x e in
+    let k = linked (goal.at.chain-preserved-in-Forces c).In-Some-entry in
     let l = c.in-Forces.lit in
-    let fits : SFits w32 l = search rules in
-    let w : Within (length b) cs = subst (λ (z : ℕ). Within z cs) (sym m.0.back.long) t.within in
-    let p = step cs b us x.owner l c.variable.result c.sign.result w held (judged (λ a k. (live a k ≡ l ∷ []) × (value a l ≡ None)) c.values-in-Some-entry.ensures c.clause.ensures c.in-Forces.ensures) (c.variable.ensures ∙ ap variable (to_z-of_z w32 l fits)) (c.sign.ensures ∙ ap sign (to_z-of_z w32 l fits)) _ _ c.put.ensures in (
+    let e = to_z-of_z w32 l (let f : SFits w32 l = search rules in f) in
+    let w : Within (length b) cs = subst (λ z. Within z cs) (sym m.0.back.long) t.within in
+    let p = step cs b (trailed c.chain.board) x.owner l c.variable.result c.sign.result w (owner_below _ (chains c.args.index.now) t.indexed.owned _ x k) (judged (λ a k. (live a k ≡ l ∷ []) × (value a l ≡ None)) c.values-in-Some-entry.ensures c.clause.ensures c.in-Forces.ensures) (c.variable.ensures ∙ ap variable e) (c.sign.ensures ∙ ap sign e) _ _ c.put.ensures in (
       p.come _ _ m.0,
       omega (arith, p.longer, m.1),
-      awake_visited cs s.entries _ _ (c.queue.from + 1) c.chain.link x e p.calm (λ i h. p.kept (get_or cs i []) (c.queue.from + 1) _ m.1 (m.2 i h)),
+      awake_visited _ _ _ _ _ _ x k p.calm (λ i h. p.kept (get_or cs i []) _ _ m.1 (m.2 i h)),
     )
 
 pub returns-in-Dead : goal.returns-in-Dead
 returns-in-Dead c rd =
-    let cs = (stood_of c.args.store.now).held in
-    let s = chains c.args.index.now in
-    let us1 = trailed c.queue.board in
-    let v = c.in-Some.v in
-    let q = c.queue.invariant rd in
-    let put : slice_get us1 c.queue.from ≡ Some v = sym c.set_at.ensures ∙ c.in-Some.is in
-    let t = turning cs s _ _ c.args.start rd _ us1 c.queue.from q.0 q.2 (slice_get_within us1 c.queue.from v put) v c.against-link.result put (c.against-link.ensures ∙ ap (against s v) (c.value_at.ensures ∙ ap (λ (z : List Value). get_or z v None) c.values.ensures)) in
-    let m = c.chain.invariant t in
-    let b = assigned c.chain.board in
-    let us = trailed c.chain.board in
-    let x = c.in-Some-entry.entry in
-    let e : entry_of s c.chain.link ≡ Some x = sym c.entry.ensures ∙ c.in-Some-entry.is in
-    let held = owner_below (length cs) s t.indexed.owned c.chain.link x e in
-    let all = come_trans cs _ _ _ us1 b us q.0 m.0 in
-    record { run = all.run; back = all.back; end = record { clause = x.owner; held = held; dead = judged (λ a k. live a k ≡ []) c.values-in-Some-entry.ensures c.clause.ensures c.in-Dead.ensures } }
+    let t = turned (goal.at.returns-in-Dead c).After-against-link rd in
+    let all = come_trans (c.queue.invariant rd).0 (c.chain.invariant t).0 in
+    let held = owner_below _ (chains c.args.index.now) t.indexed.owned _ _ (linked (goal.at.returns-in-Dead c).In-Some-entry) in
+    record { run = all.run; back = all.back; end = record { clause = c.in-Some-entry.entry.owner; held = held; dead = judged (λ a k. live a k ≡ []) c.values-in-Some-entry.ensures c.clause.ensures c.in-Dead.ensures } }
 
 past : (xs : List ℕ) (k : ℕ) → slice_get xs k ≡ None → length xs ≤ k
 past xs k e = elim (slice_get_cases xs k).1 [ inl h ↦ (let z : Some h.0 ≡ None = sym h.2 ∙ e in cc) | inr h ↦ h.0 ]
@@ -98,4 +93,4 @@ past xs k e = elim (slice_get_cases xs k).1 [ inl h ↦ (let z : Some h.0 ≡ No
 pub returns : goal.returns
 returns c rd =
     let q = c.queue.invariant rd in
-    record { run = q.0.run; back = q.0.back; end = awake_quiet (stood_of c.args.store.now).held (chains c.args.index.now).entries _ _ c.queue.from (past (trailed c.queue.board) c.queue.from (sym c.set_at.ensures ∙ c.in_default.is)) q.2 }
+    record { run = q.0.run; back = q.0.back; end = awake_quiet _ (chains c.args.index.now).entries _ _ _ (past _ _ (sym c.set_at.ensures ∙ c.in_default.is)) q.2 }

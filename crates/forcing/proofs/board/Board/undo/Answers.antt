@@ -16,13 +16,6 @@ loop-self-preserved c =
       ap (λ z. unset z (drop m (trailed c.reopen.new.self))) d ∙ ap (λ z. unset (set (assigned s) (get_or ts (length ts - 1) 0) _) (drop m z)) e ∙ unset_last (assigned s) ts m l ∙ c.loop-self.invariant.1,
     )
 
-pub loop-self-smaller : goal.loop-self-smaller
-loop-self-smaller c =
-    let ts = trailed c.loop-self.self in
-    let k = ap length c.reopen.ensures.trail in
-    let t = length-take (length ts - 1) ts in
-    omega (arith, c.mark.ensures)
-
 pub returns : goal.returns
 returns c =
     let ts = trailed c.loop-self.self in

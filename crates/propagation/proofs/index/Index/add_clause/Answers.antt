@@ -4,11 +4,12 @@ use Rattle.std.proofs.lemmas.List.{take_more, take_all}
 use Rattle.holder.specs.Widest.{variable}
 use Rattle.propagation.specs.Chains.{added, added_clause}
 use Rattle.propagation.specs.Made.{chains}
-use Rattle.propagation.proofs.Chained.{clause_heads, clause_push, clause_none, clause_long, within_at}
+use Rattle.propagation.proofs.Chained.{clause_heads, clause_push, clause_long, within_at}
 use Rattle.propagation.proofs.index.Index.add_clause.Goals as goal
 
 pub loop-lit-init : goal.loop-lit-init
-loop-lit-init c = (sym (clause_none (chains c.args.self.now) c.args.i), refl)
+unfolding added_clause
+loop-lit-init c = (refl, refl)
 
 pub add-requires : goal.add-requires
 add-requires c =
@@ -38,6 +39,3 @@ loop-lit-preserved c =
       c.add.ensures.value ∙ ap (λ (z : ℤ). added (chains c.loop-lit.self) z i) (to_z-of_z w32 x f) ∙ ap (λ z. added z x i) c.loop-lit.invariant.0 ∙ sym (clause_push (chains s) (take k xs) x i) ∙ ap (λ z. added_clause (chains s) z i) (sym (take_more xs k (pos 0) c.loop-lit-test.true)),
       c.add.ensures.most ∙ c.loop-lit.invariant.1,
     )
-
-pub returns : goal.returns
-returns c = record { value = c.loop-lit.invariant.0 ∙ ap (λ z. added_clause (chains c.args.self.now) z c.args.i) (take_all c.loop-lit.lit-index c.args.clause.now c.loop-lit-test.false); most = c.loop-lit.invariant.1 }
