@@ -7,6 +7,7 @@ use Rattle.std.specs.Option.{ForSome}
 use Rattle.holder.specs.Widest.{variable}
 use Rattle.holder.specs.Clauses.{size}
 use Rattle.trials.specs.Exist.{Within, WithinClause}
+use Rattle.trials.proofs.Below.{replicate_at}
 use Rattle.propagation.specs.declared.index.Entry.{Entry}
 use Rattle.propagation.specs.declared.index.Heads.{Heads}
 use Rattle.propagation.specs.Chains.{Chains, no_heads, no_entry, heads_at, entry_at, Leads, here, there, head, Lists, begins, begun, added, added_clause, added_all, no_chains, Falling, Starting, Good, Owned, Indexes}
@@ -167,16 +168,8 @@ pub none_good : (places : ℕ) → Good places (no_chains places)
 none_good places = record {
   long = length-replicate places no_heads;
   falling = λ q h. absurd (let z : ⊥ = omega arith in z);
-  starts = λ v. subst (Below 0) (sym (none_at places v)) (none_below, none_below);
+  starts = λ v. rw (replicate_at places v no_heads) ((λ p e. cc), (λ p e. cc));
 }
-  where
-    none_below : ForSome None (λ p. p < 0)
-    none_below p e = cc
-
-    none_at : (k v : ℕ) → heads_at (replicate k no_heads) v ≡ no_heads
-    none_at zero v = refl
-    none_at (suc k) zero = refl
-    none_at (suc k) (suc v) = none_at k v
 
 pub all_indexes : (places : ℕ) (cs : List (List ℤ)) → Within places cs → Indexes cs places (added_all (no_chains places) cs 0)
 all_indexes places cs w =
