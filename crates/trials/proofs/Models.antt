@@ -5,7 +5,7 @@ use lib.ListN.{length-replicate}
 use Rattle.std.proofs.lemmas.Bool.{and_parts, or_parts, or_left, or_right, or_cases, both_ways, cases_Bool, not-true}
 use Rattle.std.proofs.Math.ListN.{get_or-map}
 use Rattle.std.proofs.lemmas.List.{get_or-take, get_or-drop, length-map}
-use Rattle.trials.specs.Values.{Value, flip, value, is_false, is_true, model_of}
+use Rattle.trials.specs.Values.{Value, flip, value, is_true, model_of}
 use Rattle.runs.specs.Problems.{Each}
 use Rattle.runs.specs.Steps.{any}
 use Rattle.runs.specs.Models.{valued, Model}
@@ -112,10 +112,6 @@ module _ (n : ℕ) (m : List Bool) (long : length m ≡ n) where
   lively_true : (l : ℤ) (c : List ℤ) → value (of_model m) l ≡ Some true → Lively (l ∷ c)
   unfolding live
   lively_true l c e = (λ d. let f = rw e at d in cc, λ k d. let f = rw e at d in let g : l ≡ k = cc in rw (← g) e)
-
-  live_on : (l : ℤ) (c : List ℤ) → is_false (value (of_model m) l) ≡ false → Lively c → Lively (l ∷ c)
-  unfolding live
-  live_on l c e h = (λ d. let f = rw e at d in cc, λ k d. let f = rw e at d in absurd (h.0 (cc)))
 
   lively_more : (l : ℤ) (c : List ℤ) → Lively c → (x : Value) → value (of_model m) l ≡ x → Lively (l ∷ c)
   unfolding live
