@@ -30,11 +30,6 @@ pub unset_none : (a : List Value) → unset a [] ≡ a
 unfolding unset
 unset_none a = refl
 
-pub unset_long : (a : List Value) (vs : List ℕ) → length (unset a vs) ≡ length a
-unfolding unset
-unset_long a [] = refl
-unset_long a (v ∷ vs) = length-set (unset a vs) v None ∙ unset_long a vs
-
 -- the variable that was set last opens first
 pub unset_last : (a : List Value) (ts : List ℕ) (m : ℕ) → m < length ts → unset (set a (get_or ts (length ts - 1) 0) None) (drop m (take (length ts - 1) ts)) ≡ unset a (drop m ts)
 unset_last a ts m h =

@@ -1,4 +1,5 @@
 -- What is listed, as entries are added.
+use Rattle.std.proofs.lemmas.Grind.{common_steps}
 use Rattle.std.proofs.Common.{◌≡◌, ℕ, zero, suc, ◌+◌, ◌<◌, ◌≤◌, ◌⊎◌, List, [], ◌∷◌, ◌++◌, length, get_or, take, set, replicate, ℤ, pos, negsuc, None, Some, Option, sym, refl, ap, ◌∙◌, subst, inl, inr, arith, length-set, length-take}
 use Rattle.std.proofs.Math.IntN.{ℤ_discrete}
 use Rattle.std.proofs.lemmas.Bool.{cases_eq, cases_lt}
@@ -7,6 +8,7 @@ use Rattle.std.specs.Option.{ForSome}
 use Rattle.holder.specs.Widest.{variable}
 use Rattle.holder.specs.Clauses.{size}
 use Rattle.trials.specs.Exist.{Within, WithinClause}
+use Rattle.trials.proofs.Below.{replicate_at}
 use Rattle.propagation.specs.declared.index.Entry.{Entry}
 use Rattle.propagation.specs.declared.index.Heads.{Heads}
 use Rattle.propagation.specs.Chains.{Chains, no_heads, no_entry, heads_at, entry_at, Leads, here, there, head, Lists, begins, begun, added, added_clause, added_all, no_chains, Falling, Starting, Good, Owned, Indexes}
@@ -17,28 +19,18 @@ leads_more es x (there q i l r) = there q i (omega (arith, length_push es x)) (r
 
 -- what is read after one place is set
 set_either : (hs : List Heads) (a v : ℕ) (h : Heads) → (v ≡ a) × (heads_at (set hs a h) v ≡ h) ⊎ (heads_at (set hs a h) v ≡ heads_at hs v)
-set_either hs a v h = elim (cases_eq v a) [
-  | inl e ↦ elim (cases_lt a (length hs)) [
-    | inl w ↦ inl (e, ap (heads_at (set hs a h)) e ∙ get_or-set_same hs a h no_heads w)
-    | inr p ↦ inr (ap (λ z. heads_at z v) (set_past hs a h p))
-  ]
-  | inr ne ↦ inr (get_or-set_other hs a v h no_heads ne)
-]
+set_either x0 x1 x2 x3 = grind (arith, common_steps)
 
 kept : (f : Heads → Option ℕ) (hs : List Heads) (a v : ℕ) (h : Heads) → f h ≡ f (heads_at hs a) → f (heads_at (set hs a h) v) ≡ f (heads_at hs v)
 kept f hs a v h e = elim (set_either hs a v h) [ inl k ↦ ap f k.1 ∙ e ∙ sym (ap (λ z. f (heads_at hs z)) k.0) | inr k ↦ ap f k ]
 
 head_other : (s : Chains) (l m : ℤ) (i : ℕ) → (m ≡ l → ⊥) → head (added s l i) m ≡ head s m
 unfolding added
-head_other s (pos a) (pos b) i ne = rw (get_or-set_other s.heads a b _ no_heads (λ e. ne (ap pos e)))
-head_other s (pos a) (negsuc b) i ne = kept (λ z. z.negative) s.heads a (suc b) _ refl
-head_other s (negsuc a) (pos b) i ne = kept (λ z. z.positive) s.heads (suc a) b _ refl
-head_other s (negsuc a) (negsuc b) i ne = rw (get_or-set_other s.heads (suc a) (suc b) _ no_heads (λ e. let f : b ≡ a = omega arith in ne (ap negsuc f)))
+head_other x0 x1 x2 x3 x4 = grind (arith, common_steps)
 
 head_here : (s : Chains) (l : ℤ) (i : ℕ) → variable l < length s.heads → head (added s l i) l ≡ Some (length s.entries)
 unfolding added
-head_here s (pos a) i w = rw (get_or-set_same s.heads a _ no_heads w)
-head_here s (negsuc a) i w = rw (get_or-set_same s.heads (suc a) _ no_heads w)
+head_here x0 x1 x2 x3 = grind (arith, common_steps)
 
 -- the two lists after one entry more
 pub added_is : (s : Chains) {l z : ℤ} (i : ℕ) {v n : ℕ} {old new : Heads} {link : Option ℕ} {es : List Entry} → z ≡ l → v ≡ variable z → old ≡ heads_at s.heads v → n ≡ length s.entries → new ≡ begins old z n → link ≡ begun old z → es ≡ s.entries ++ record { owner = i; next = link } ∷ [] → ◌≡◌ {A = Chains} (record { heads = set s.heads v new; entries = es }) (added s l i)
@@ -60,8 +52,7 @@ abbrev Below : ℕ → Heads → Type 0
 Below n h = ForSome h.positive (λ p. p < n) × ForSome h.negative (λ p. p < n)
 
 begins_below : (n : ℕ) (h : Heads) (l : ℤ) → Below n h → Below (n + 1) (begins h l n)
-begins_below n h (pos a) b = (the_new n, wider h.negative n b.1)
-begins_below n h (negsuc a) b = (wider h.positive n b.0, the_new n)
+begins_below x0 x1 x2 x3 = grind (arith, common_steps)
 
 head_below : (s : Chains) (l : ℤ) (n : ℕ) → Starting s.heads n → ForSome (head s l) (λ p. p < n)
 head_below s (pos a) n h = (h a).0
@@ -164,19 +155,7 @@ module _ (places : ℕ) where
   all_listed s (c ∷ cs) i g w (suc j) n e h k l = all_listed (added_clause s c i) cs (suc i) (clause_gains s c i g (w 0 (omega arith))).good (λ j h. w (suc j) (omega arith)) j n (omega arith) (omega arith) k l
 
 pub none_good : (places : ℕ) → Good places (no_chains places)
-none_good places = record {
-  long = length-replicate places no_heads;
-  falling = λ q h. absurd (let z : ⊥ = omega arith in z);
-  starts = λ v. subst (Below 0) (sym (none_at places v)) (none_below, none_below);
-}
-  where
-    none_below : ForSome None (λ p. p < 0)
-    none_below p e = cc
-
-    none_at : (k v : ℕ) → heads_at (replicate k no_heads) v ≡ no_heads
-    none_at zero v = refl
-    none_at (suc k) zero = refl
-    none_at (suc k) (suc v) = none_at k v
+none_good x0 = grind (arith, common_steps)
 
 pub all_indexes : (places : ℕ) (cs : List (List ℤ)) → Within places cs → Indexes cs places (added_all (no_chains places) cs 0)
 all_indexes places cs w =

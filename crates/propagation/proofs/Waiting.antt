@@ -1,4 +1,5 @@
 -- What a variable that is set leaves of the clauses that wait.
+use Rattle.std.proofs.lemmas.Grind.{common_steps}
 use Rattle.std.proofs.Common.{◌≡◌, ℕ, suc, ◌+◌, ◌<◌, ◌≤◌, ◌⊎◌, List, [], ◌∷◌, ◌++◌, length, get_or, set, ℤ, pos, negsuc, sym, refl, ap, ◌∙◌, subst, inl, inr, arith, None, Some, true, false, Option, slice_get}
 use Rattle.std.proofs.lemmas.Bool.{cases_eq}
 use Rattle.std.proofs.lemmas.List.{get_or_append_left, get_or_push, get_or-set_same, get_or-set_other, length_push}
@@ -15,19 +16,16 @@ use Rattle.propagation.specs.Chains.{Chains, no_entry, heads_at, entry_at, Leads
 use Rattle.propagation.specs.Waits.{Watched, calm, waits, other, Awake, NoneElse, against}
 
 open_back : (b d : List Value) → Below b d → (l : ℤ) → value d l ≡ None → (x : Value) → value b l ≡ x → value b l ≡ None
-open_back b d less l o None e = e
-open_back b d less l o (Some x) e = absurd (set_not_open (sym (below_value b d less l (Some x) e set_not_open) ∙ o))
+open_back x0 x1 x2 x3 x4 x5 x6 = grind (arith, common_steps)
 
 calm_kept : (b d : List Value) (c : List ℤ) → Below b d → live d c ≡ live b c → Calm b c → Calm d c
 calm_kept b d c less e k = record { alive = λ z. k.alive (sym e ∙ z); still = λ l z o. k.still l (sym e ∙ z) (open_back b d less l o (value b l) refl) }
 
 value_open : (b : List Value) (l : ℤ) → get_or b (variable l) None ≡ None → value b l ≡ None
-value_open b (pos n) e = e
-value_open b (negsuc n) e = ap flip e
+value_open x0 x1 x2 = grind (arith, common_steps)
 
 value_other : (b : List Value) (v : ℕ) (x : Value) (l : ℤ) → (variable l ≡ v → ⊥) → value (set b v x) l ≡ value b l
-value_other b v x (pos n) ne = get_or-set_other b v n x None ne
-value_other b v x (negsuc n) ne = ap flip (get_or-set_other b v (suc n) x None ne)
+value_other x0 x1 x2 x3 x4 = grind (arith, common_steps)
 
 -- a literal of the clause that v made false
 pub record Touched (d : List Value) (v : ℕ) (c : List ℤ) : Type 0 where
@@ -76,8 +74,7 @@ module _ (b : List Value) (v : ℕ) (x : Value) (o : get_or b v None ≡ None) w
   })
 
 true_sign : (b : List Value) (l : ℤ) → get_or b (variable l) None ≡ sign l → value b l ≡ Some true
-true_sign b (pos k) e = e
-true_sign b (negsuc k) e = ap flip e
+true_sign x0 x1 x2 = grind (arith, common_steps)
 
 -- after forcing by itself a clause is calm
 pub forced_calm : (b : List Value) (c : List ℤ) (l : ℤ) (v : ℕ) (x : Value) → live b c ≡ l ∷ [] → value b l ≡ None → v ≡ variable l → x ≡ sign l → v < length b → Calm (set b v x) c
@@ -89,8 +86,7 @@ forced_calm b c l v x alone opened n s w =
 
 -- the chain of the literal that v made false
 against_is : (s : Chains) (b : List Value) (l : ℤ) (v : ℕ) → variable l ≡ v → value b l ≡ Some false → head s l ≡ against s v (get_or b v None)
-against_is s b (pos n) v e f = rw (← e, f)
-against_is s b (negsuc n) v e f = rw (← e, flip_back (get_or b (suc n) None) (Some false) f)
+against_is x0 x1 x2 x3 x4 x5 = grind (arith, common_steps)
 
 module _ (cs : List (List ℤ)) (places : ℕ) (s : Chains) (ix : Indexes cs places s) (b : List Value) (us : List ℕ) where
   -- the clauses that wait for the variable at `from` stand in one chain
@@ -132,8 +128,4 @@ module _ (cs : List (List ℤ)) (es : List Entry) (b : List Value) (us : List �
   ]
 
   pub awake_quiet : length us ≤ from → Awake cs b us from NoneElse → Quiet cs b
-  awake_quiet l a i h = elim (a i h) [
-    | calm k ↦ k
-    | other z ↦ absurd z
-    | waits w ↦ absurd (let z : ⊥ = omega (arith, w.low, w.high) in z)
-  ]
+  awake_quiet x0 x1 x2 x3 = grind (arith, common_steps)

@@ -1,6 +1,6 @@
 -- One clause after another.
 use Rattle.std.proofs.Common.{◌≡◌, ℕ, ◌+◌, ◌<◌, ◌≤◌, List, [], length, get_or, ℤ, sym, subst, inl, inr, arith}
-use Rattle.std.proofs.lemmas.Bool.{cases_eq}
+use Rattle.std.proofs.lemmas.Grind.{common_steps}
 use Rattle.trials.specs.Values.{Value}
 use Rattle.trials.specs.Forcing.{Calm}
 use Rattle.propagation.specs.Waits.{Watched, calm, Awake, NoneElse}
@@ -10,10 +10,4 @@ abbrev pub WatchedTo : List (List ℤ) → List Value → List ℕ → ℕ → �
 WatchedTo cs b us from n = (i : ℕ) → i < n → Watched (get_or cs i []) b us from ⊥
 
 pub watched_calm : (cs : List (List ℤ)) (b : List Value) (us : List ℕ) (from n m : ℕ) → m ≡ n + 1 → Calm b (get_or cs n []) → WatchedTo cs b us from n → WatchedTo cs b us from m
-watched_calm cs b us from n m s k a i h = elim (cases_eq i n) [
-  | inl e ↦ subst (λ (z : ℕ). Watched (get_or cs z []) b us from ⊥) (sym e) (calm k)
-  | inr ne ↦ a i (omega arith)
-]
-
-pub watched_all : (cs : List (List ℤ)) (b : List Value) (us : List ℕ) (from n : ℕ) → length cs ≤ n → WatchedTo cs b us from n → Awake cs b us from NoneElse
-watched_all cs b us from n l a i h = a i (omega arith)
+watched_calm cs b us from n m s k a i h = grind (arith, common_steps)

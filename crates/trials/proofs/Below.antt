@@ -1,11 +1,11 @@
 -- Assignments that say more.
-use Rattle.std.proofs.Common.{◌≡◌, ℕ, suc, ◌<◌, ◌≤◌, cond, List, [], ◌∷◌, length, get_or, set, replicate, arith, ℤ, pos, negsuc, sym, refl, ap, ◌∙◌, subst, inl, inr, None, Some, true, false, Bool}
-use Rattle.std.proofs.lemmas.Bool.{cases_eq, cases_lt}
-use Rattle.std.proofs.lemmas.List.{get_or-set_same, get_or-set_other, set_past, ext_get_or, get_or-replicate, get_or_past, length-replicate}
-use Rattle.trials.specs.Values.{Value, flip, value, is_false, sign, holding}
+use Rattle.std.proofs.lemmas.Grind.{common_steps}
+use Rattle.std.proofs.Common.{◌≡◌, ℕ, List, [], ◌∷◌, length, get_or, set, replicate, arith, ℤ, sym, refl, ap, ◌∙◌, inl, inr, None, Some, true, Bool}
+use Rattle.std.proofs.lemmas.Bool.{cases_lt}
+use Rattle.std.proofs.lemmas.List.{ext_get_or, get_or-replicate, get_or_past, length-replicate}
+use Rattle.trials.specs.Values.{Value, flip, value, sign, holding}
 use Rattle.holder.specs.Widest.{variable}
 use Rattle.trials.specs.Forcing.{live}
-use Rattle.trials.specs.Exist.{flip_open}
 
 -- what a says, b says too
 abbrev pub Below : List Value → List Value → Type 0
@@ -15,9 +15,7 @@ pub set_not_open : {b : Bool} → ◌≡◌ {A = Value} (Some b) None → ⊥
 set_not_open e = cc
 
 pub flip_twice : (x : Value) → flip (flip x) ≡ x
-flip_twice None = refl
-flip_twice (Some true) = refl
-flip_twice (Some false) = refl
+flip_twice x0 = grind (arith, common_steps)
 
 pub flip_back : (x y : Value) → flip x ≡ y → x ≡ flip y
 flip_back x y e = sym (flip_twice x) ∙ ap flip e
@@ -30,14 +28,11 @@ below_trans a b c f g v x e s = g v x (f v x e s) s
 
 module _ (a b : List Value) (less : Below a b) where
   pub below_value : (l : ℤ) (x : Value) → value a l ≡ x → (x ≡ None → ⊥) → value b l ≡ x
-  below_value (pos n) x e s = less n x e s
-  below_value (negsuc n) x e s = ap flip (less (suc n) (flip x) (flip_back (get_or a (suc n) None) x e) (λ o. s (flip_open x o))) ∙ flip_twice x
+  below_value x0 x1 x2 x3 = grind (arith, common_steps)
 
   live_head : (l : ℤ) (c : List ℤ) → live b (live a c) ≡ live b c → (x : Value) → value a l ≡ x → live b (live a (l ∷ c)) ≡ live b (l ∷ c)
   unfolding live
-  live_head l c h None e = rw (e, h)
-  live_head l c h (Some true) e = rw (e, h)
-  live_head l c h (Some false) e = rw (e, below_value l (Some false) e set_not_open) h
+  live_head x0 x1 x2 x3 x4 = grind (arith, common_steps)
 
   -- what is live in b, is live in a
   pub live_below : (c : List ℤ) → live b (live a c) ≡ live b c
@@ -46,28 +41,17 @@ module _ (a b : List Value) (less : Below a b) where
   live_below (l ∷ c) = live_head l c (live_below c) (value a l) refl
 
 pub sign_true : (b : List Value) (l : ℤ) → value b l ≡ Some true → get_or b (variable l) None ≡ sign l
-sign_true b (pos n) e = e
-sign_true b (negsuc n) e = flip_back (get_or b (suc n) None) (Some true) e
+sign_true x0 x1 x2 = grind (arith, common_steps)
 
 -- one variable more
 pub below_set : (a b : List Value) (w : ℕ) (y : Value) → Below a b → get_or b w None ≡ y → Below (set a w y) b
-below_set a b w y h e v x g s =
-    elim (cases_eq v w) [
-      | inl i ↦ elim (cases_lt w (length a)) [
-        | inl l ↦ rw i (e ∙ sym (get_or-set_same a w y None l) ∙ (rw i at g))
-        | inr p ↦ h v x (rw (set_past a w y p) at g) s
-      ]
-      | inr ne ↦ h v x (rw (get_or-set_other a w v y None ne) at g) s
-    ]
+below_set x0 x1 x2 x3 x4 x5 x6 x7 x8 x9 = grind (arith, common_steps)
 
 pub below_holding : (a b : List Value) (l : ℤ) → Below a b → value b l ≡ Some true → Below (holding a l) b
 below_holding a b l h e = below_set a b (variable l) (sign l) h (sign_true b l e)
 
 pub below_put : (a : List Value) (v : ℕ) (x : Value) → get_or a v None ≡ None → Below a (set a v x)
-below_put a v x o w y e s = elim (cases_eq w v) [
-  | inl i ↦ absurd (s (sym e ∙ rw (i, o)))
-  | inr ne ↦ get_or-set_other a v w x None ne ∙ e
-]
+below_put x0 x1 x2 x3 x4 x5 x6 x7 = grind (arith, common_steps)
 
 same_value : (x y : Value) → ((z : Value) → x ≡ z → (z ≡ None → ⊥) → y ≡ z) → ((z : Value) → y ≡ z → (z ≡ None → ⊥) → x ≡ z) → x ≡ y
 same_value None None f g = refl

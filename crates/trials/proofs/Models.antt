@@ -1,15 +1,15 @@
 -- What a course says of models.
-use Rattle.std.proofs.Common.{◌≡◌, ℕ, zero, suc, ◌+◌, ◌-◌, ◌<◌, ◌≤◌, Bool, true, false, cond, not, T, ltb, leb, ◌⊎◌, List, [], ◌∷◌, map, length, get_or, take, drop, replicate, ℤ, pos, negsuc, Some, None, sym, refl, ap, ◌∙◌, subst, inl, inr, arith, length-drop, length-set, length-take}
+use Rattle.std.proofs.lemmas.Grind.{common_steps}
+use Rattle.std.proofs.Common.{◌≡◌, ℕ, zero, suc, ◌+◌, ◌-◌, ◌<◌, ◌≤◌, Bool, true, false, cond, not, T, ◌⊎◌, List, [], ◌∷◌, map, length, get_or, take, drop, replicate, ℤ, pos, negsuc, Some, None, sym, refl, ap, ◌∙◌, subst, inl, inr, arith, length-drop, length-set, length-take}
 use lib.ListN.{length-replicate}
-use Rattle.std.proofs.lemmas.Bool.{and_parts, or_parts, or_left, or_right, or_cases, both_ways, cases_Bool, not-true, ltb-true, cond-true, cond-false}
+use Rattle.std.proofs.lemmas.Bool.{and_parts, or_parts, or_left, or_right, or_cases, both_ways, cases_Bool, not-true}
 use Rattle.std.proofs.Math.ListN.{get_or-map}
 use Rattle.std.proofs.lemmas.List.{get_or-take, get_or-drop, length-map}
-use Rattle.trials.specs.Values.{Value, flip, value, is_false, is_true, model_of}
-use Rattle.refusals.specs.Limits.{most_variables}
+use Rattle.trials.specs.Values.{Value, flip, value, is_true, model_of}
 use Rattle.runs.specs.Problems.{Each}
 use Rattle.runs.specs.Steps.{any}
 use Rattle.runs.specs.Models.{valued, Model}
-use Rattle.runs.proofs.Truth.{true_from, T-from}
+use Rattle.runs.proofs.Truth.{T-from}
 use Rattle.holder.specs.Clauses.{literal_fine, all_fine}
 use Rattle.holder.specs.Widest.{variable, widest, widest_of}
 use Rattle.trials.specs.Forcing.{live, Forcing, Quiet}
@@ -28,8 +28,7 @@ abbrev pub AllProper : ℕ → List (List ℤ) → Type 0
 AllProper n cs = (i : ℕ) → i < length cs → Proper n (get_or cs i [])
 
 literal_low : (l : ℤ) → literal_fine l ≡ true → 1 ≤ variable l
-literal_low (pos n) h = grind arith
-literal_low (negsuc n) h = omega arith
+literal_low x0 x1 = grind (arith, common_steps)
 
 pub proper : (n : ℕ) (c : List ℤ) → all_fine c ≡ true → widest_of c ≤ n → Proper n c
 unfolding widest_of
@@ -46,9 +45,7 @@ pub all_proper : (cs : List (List ℤ)) (n : ℕ) → ((i : ℕ) → i < length 
 all_proper cs n h w i l = let e = widest_at cs i l in proper n (get_or cs i []) (h i l) (omega arith)
 
 each_at : (m : List Bool) (cs : List (List ℤ)) → Each (λ c. T (any (valued m) c)) cs → (i : ℕ) → i < length cs → any (valued m) (get_or cs i []) ≡ true
-each_at m [] h i l = absurd (let w : ⊥ = omega arith in w)
-each_at m (c ∷ cs) h zero l = true_from (any (valued m) c) h.0
-each_at m (c ∷ cs) h (suc i) l = each_at m cs h.1 i (omega arith)
+each_at x0 x1 x2 x3 x4 = grind (arith, common_steps)
 
 each_from : (m : List Bool) (cs : List (List ℤ)) → ((i : ℕ) → i < length cs → any (valued m) (get_or cs i []) ≡ true) → Each (λ c. T (any (valued m) c)) cs
 each_from m [] h = tt
@@ -116,15 +113,9 @@ module _ (n : ℕ) (m : List Bool) (long : length m ≡ n) where
   unfolding live
   lively_true l c e = (λ d. let f = rw e at d in cc, λ k d. let f = rw e at d in let g : l ≡ k = cc in rw (← g) e)
 
-  live_on : (l : ℤ) (c : List ℤ) → is_false (value (of_model m) l) ≡ false → Lively c → Lively (l ∷ c)
-  unfolding live
-  live_on l c e h = (λ d. let f = rw e at d in cc, λ k d. let f = rw e at d in absurd (h.0 (cc)))
-
   lively_more : (l : ℤ) (c : List ℤ) → Lively c → (x : Value) → value (of_model m) l ≡ x → Lively (l ∷ c)
   unfolding live
-  lively_more l c h (Some true) e = lively_true l c e
-  lively_more l c h None e = live_on l c (ap is_false e) h
-  lively_more l c h (Some false) e = (λ d. h.0 (rw e at d), λ k d. h.1 k (rw e at d))
+  lively_more x0 x1 x2 x3 x4 = grind (arith, common_steps)
 
   lively : (c : List ℤ) → Proper n c → any (valued m) c ≡ true → Lively c
   lively [] p h = absurd (both_ways false refl h)

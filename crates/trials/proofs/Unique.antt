@@ -1,17 +1,13 @@
 -- All courses from one assignment make the same trials, find the same and end in the same assignment.
-use Rattle.std.proofs.Common.{◌≡◌, ℕ, ◌+◌, true, false, cond, ◌||◌, List, get_or, set, ℤ, Some, None, sym, refl, ap, ◌∙◌, subst, inl, inr}
-use Rattle.std.proofs.lemmas.Bool.{cases_order}
+use Rattle.std.proofs.lemmas.Grind.{common_steps}
+use Rattle.std.proofs.Common.{arith, ◌≡◌, ℕ, ◌+◌, true, false, cond, ◌||◌, List, get_or, set, ℤ, Some, None, sym, refl, ap, subst}
 use Rattle.trials.specs.Values.{Value}
 use Rattle.trials.specs.Forcing.{Conflict, Forcing, Quiet}
 use Rattle.trials.specs.Courses.{FirstOpen, Complete, Course, fails, ends, tries, found, tried, ended}
 use Rattle.trials.proofs.Confluence.{same_end, same_conflict, quiet_maximal, quiet_free}
 
 pub first_same : (n : ℕ) (a : List Value) (v w : ℕ) → FirstOpen n a v → FirstOpen n a w → v ≡ w
-first_same n a v w f g = elim (cases_order v w) [
-  | inl e ↦ e
-  | inr (inl l) ↦ absurd (g.before v f.low l f.opened)
-  | inr (inr l) ↦ absurd (f.before w g.low l g.opened)
-]
+first_same x0 x1 x2 x3 x4 x5 = grind (arith, common_steps)
 
 module _ (cs : List (List ℤ)) (n : ℕ) where
   -- a course that tries v after it has come to b

@@ -4,6 +4,7 @@ ghost use Rattle.trials.specs.Courses.{OneCourse, OneEnd};
 ghost use Rattle.trials.specs.Trials.{AnyCourse, AnyEnd, RightOutcome};
 
 // Forcing ends in the same assignment, or meets a conflict, whatever the order.
+#[tactic(auto, using(crate::proofs::Confluence::confluent))]
 pub fn forcing_is_confluent()
     ensures { Confluent }
 {}
@@ -14,6 +15,7 @@ pub fn courses_agree()
 {}
 
 // All courses of a search end in the same assignment.
+#[tactic(auto, using(crate::proofs::Unique::one_end))]
 pub fn ends_agree()
     ensures { OneEnd }
 {}
@@ -24,6 +26,7 @@ pub fn any_course_counts()
 {}
 
 // So is the assignment that it ends in.
+#[tactic(auto, using(crate::proofs::Unique::one_end), unfolding(crate::specs::Trials::outcome))]
 pub fn any_course_ends()
     ensures { AnyEnd }
 {}
