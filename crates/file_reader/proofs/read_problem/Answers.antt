@@ -1,4 +1,5 @@
-use Rattle.std.proofs.Common.{◌≡◌, drop, ◌∙◌, rules}
+use Rattle.std.proofs.Common.{◌≡◌, drop, ◌∙◌, arith, rules}
+use Rattle.std.proofs.lemmas.Grind.{common_steps}
 use Rattle.problem.specs.Tables.{axioms_drafted, rules_drafted, goals_drafted}
 use Rattle.file_format.specs.Reading.{read, all_fields}
 use Rattle.file_reader.proofs.Opening.{opening_read}
@@ -15,6 +16,12 @@ ruled c = next_table 3 (axioms_drafted c.in_ok-axioms.axioms) (axioms_drafted c.
 
 aimed : (c : goal.After-filled-3) → all_fields 4 (rules_drafted c.rules.result) c.filled.new.place.at (drop c.filled.new.place.at c.args.file.now) ≡ all_fields 5 (goals_drafted c.goals.result) c.filled-2.new.place.at (drop c.filled-2.new.place.at c.args.file.now)
 aimed c = next_table 4 (rules_drafted c.rules.result) (rules_drafted c.in_ok-rules.rules) _ _ _ c.filled-2.new.place.at c.in_ok-rules.ensures c.goals.ensures
+
+pub returns-in_err-facts : goal.returns-in_err-facts
+returns-in_err-facts c = grind (arith, common_steps)
+
+pub returns-in_err-axioms : goal.returns-in_err-axioms
+returns-in_err-axioms c = grind (arith, common_steps)
 
 pub returns-in_err-axioms-2 : goal.returns-in_err-axioms-2
 returns-in_err-axioms-2 c = file_says c.from_residual-in_err-axioms-2.result (begun (goal.at.returns-in_err-axioms-2 c).After-filled) (search rules)
