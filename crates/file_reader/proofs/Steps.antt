@@ -98,8 +98,5 @@ pub next_table : (t : ℕ) (p q r : Problem) (at : ℕ) (file : List ℕ) (place
 next_table t p q r at file place s e = let same = passed t (take_value t q) (drop place file) s.1 in cc
 
 -- what the bytes say, said of equal readings
-pub fault_is : {x y : Read} (f : ProblemFault) → x ≡ y → FaultIs y f → FaultIs x f
-fault_is f e s = rw e s
-
 pub file_says : {x y : Read} (r : Result CodeProblem ProblemFault) → x ≡ y → FileSays y r → FileSays x r
 file_says r e s = rw e s

@@ -1,41 +1,44 @@
-use Rattle.std.proofs.Common.{drop, ◌∙◌}
-use Rattle.std.proofs.lemmas.Result.{err_from_is_err_and}
+use Rattle.std.proofs.Common.{◌≡◌, drop, ◌∙◌, arith, rules}
+use Rattle.std.proofs.lemmas.Grind.{common_steps}
 use Rattle.problem.specs.Tables.{axioms_drafted, rules_drafted, goals_drafted}
+use Rattle.file_format.specs.Reading.{read, all_fields}
 use Rattle.file_reader.proofs.Opening.{opening_read}
-use Rattle.file_reader.proofs.Steps.{next_table, all_read, fault_is, file_says}
+use Rattle.file_reader.proofs.Steps.{next_table, all_read, file_says}
 use Rattle.file_reader.proofs.read_problem.Goals as goal
+use Rattle.file_reader.proofs.read_problem.Goals.{After-filled, After-filled-2, After-filled-3}
+
+-- what the bytes say at the end of the opening fields, of the axioms and of the rules
+begun : (c : goal.After-filled) → read c.args.file.now ≡ all_fields 3 (axioms_drafted c.in_ok-axioms.axioms) c.next_start.new.place.at (drop c.next_start.new.place.at c.args.file.now)
+begun c = opening_read _ c.in_ok-facts.facts c.next_facts.new.place.at c.next_start.new.place.at c.in_ok-axioms.axioms c.in_ok-facts.ensures c.in_ok-axioms.ensures
+
+ruled : (c : goal.After-filled-2) → all_fields 3 (axioms_drafted c.in_ok-axioms.axioms) c.next_start.new.place.at (drop c.next_start.new.place.at c.args.file.now) ≡ all_fields 4 (rules_drafted c.rules.result) c.filled.new.place.at (drop c.filled.new.place.at c.args.file.now)
+ruled c = next_table 3 (axioms_drafted c.in_ok-axioms.axioms) (axioms_drafted c.in_ok-axioms-2.axioms) _ _ _ c.filled.new.place.at c.in_ok-axioms-2.ensures c.rules.ensures
+
+aimed : (c : goal.After-filled-3) → all_fields 4 (rules_drafted c.rules.result) c.filled.new.place.at (drop c.filled.new.place.at c.args.file.now) ≡ all_fields 5 (goals_drafted c.goals.result) c.filled-2.new.place.at (drop c.filled-2.new.place.at c.args.file.now)
+aimed c = next_table 4 (rules_drafted c.rules.result) (rules_drafted c.in_ok-rules.rules) _ _ _ c.filled-2.new.place.at c.in_ok-rules.ensures c.goals.ensures
+
+pub returns-in_err-facts : goal.returns-in_err-facts
+returns-in_err-facts c = grind (arith, common_steps)
+
+pub returns-in_err-axioms : goal.returns-in_err-axioms
+returns-in_err-axioms c = grind (arith, common_steps)
 
 pub returns-in_err-axioms-2 : goal.returns-in_err-axioms-2
-returns-in_err-axioms-2 c =
-    let file = c.args.file.now in
-    let begun = opening_read file c.in_ok-facts.facts c.next_facts.new.place.at c.next_start.new.place.at c.in_ok-axioms.axioms c.in_ok-facts.ensures c.in_ok-axioms.ensures in
-    let q = err_from_is_err_and c.from_residual-in_err-axioms-2.result c.from_residual-in_err-axioms-2.ensures.1 in
-    rw (q.1, q.2) (fault_is c.in_err-axioms-2.field-0.0 begun c.in_err-axioms-2.ensures)
+returns-in_err-axioms-2 c = file_says c.from_residual-in_err-axioms-2.result (begun (goal.at.returns-in_err-axioms-2 c).After-filled) (search rules)
 
 pub returns-in_err-rules : goal.returns-in_err-rules
 returns-in_err-rules c =
-    let file = c.args.file.now in
-    let begun = opening_read file c.in_ok-facts.facts c.next_facts.new.place.at c.next_start.new.place.at c.in_ok-axioms.axioms c.in_ok-facts.ensures c.in_ok-axioms.ensures in
-    let axioms = next_table 3 (axioms_drafted c.in_ok-axioms.axioms) (axioms_drafted c.in_ok-axioms-2.axioms) (rules_drafted c.rules.result) c.next_start.new.place.at file c.filled.new.place.at c.in_ok-axioms-2.ensures c.rules.ensures in
-    let q = err_from_is_err_and c.from_residual-in_err-rules.result c.from_residual-in_err-rules.ensures.1 in
-    rw (q.1, q.2) (fault_is c.in_err-rules.field-0.0 (begun ∙ axioms) c.in_err-rules.ensures)
+    let s = goal.at.returns-in_err-rules c in
+    file_says c.from_residual-in_err-rules.result (begun s.After-filled ∙ ruled s.After-filled-2) (search rules)
 
 pub returns-in_err-goals : goal.returns-in_err-goals
 returns-in_err-goals c =
-    let file = c.args.file.now in
-    let begun = opening_read file c.in_ok-facts.facts c.next_facts.new.place.at c.next_start.new.place.at c.in_ok-axioms.axioms c.in_ok-facts.ensures c.in_ok-axioms.ensures in
-    let axioms = next_table 3 (axioms_drafted c.in_ok-axioms.axioms) (axioms_drafted c.in_ok-axioms-2.axioms) (rules_drafted c.rules.result) c.next_start.new.place.at file c.filled.new.place.at c.in_ok-axioms-2.ensures c.rules.ensures in
-    let rules = next_table 4 (rules_drafted c.rules.result) (rules_drafted c.in_ok-rules.rules) (goals_drafted c.goals.result) c.filled.new.place.at file c.filled-2.new.place.at c.in_ok-rules.ensures c.goals.ensures in
-    let q = err_from_is_err_and c.from_residual-in_err-goals.result c.from_residual-in_err-goals.ensures.1 in
-    rw (q.1, q.2) (fault_is c.in_err-goals.field-0.0 (begun ∙ axioms ∙ rules) c.in_err-goals.ensures)
+    let s = goal.at.returns-in_err-goals c in
+    file_says c.from_residual-in_err-goals.result (begun s.After-filled ∙ ruled s.After-filled-2 ∙ aimed s.After-filled-3) (search rules)
 
 pub returns : goal.returns
 returns c =
-    let file = c.args.file.now in
-    let begun = opening_read file c.in_ok-facts.facts c.next_facts.new.place.at c.next_start.new.place.at c.in_ok-axioms.axioms c.in_ok-facts.ensures c.in_ok-axioms.ensures in
-    let axioms = next_table 3 (axioms_drafted c.in_ok-axioms.axioms) (axioms_drafted c.in_ok-axioms-2.axioms) (rules_drafted c.rules.result) c.next_start.new.place.at file c.filled.new.place.at c.in_ok-axioms-2.ensures c.rules.ensures in
-    let rules = next_table 4 (rules_drafted c.rules.result) (rules_drafted c.in_ok-rules.rules) (goals_drafted c.goals.result) c.filled.new.place.at file c.filled-2.new.place.at c.in_ok-rules.ensures c.goals.ensures in
-    let s = c.in_ok-goals.ensures in
+    let s = goal.at.returns c in
     let place = c.filled-3.new.place.at in
-    let end = all_read (goals_drafted c.in_ok-goals.goals) place (drop place file) s.1 in
-    file_says c.finished.result (begun ∙ axioms ∙ rules ∙ s.0 ∙ end) c.finished.ensures
+    let end = all_read (goals_drafted c.in_ok-goals.goals) place (drop place c.args.file.now) c.in_ok-goals.ensures.1 in
+    file_says c.finished.result (begun s.After-filled ∙ ruled s.After-filled-2 ∙ aimed s.After-filled-3 ∙ c.in_ok-goals.ensures.0 ∙ end) c.finished.ensures
