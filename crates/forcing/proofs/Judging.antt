@@ -1,5 +1,6 @@
 -- A clause, literal by literal.
-use Rattle.std.proofs.Common.{◌≡◌, Bool, true, false, cond, not, ℕ, ◌<◌, length, get_or, ◌∙◌, arith, List, [], ◌∷◌, filter, Bor, Iter, ℤ, None, Some, Option, sym, refl, ap, subst, is_some}
+use Rattle.std.proofs.lemmas.Grind.{common_steps}
+use Rattle.std.proofs.Common.{◌≡◌, Bool, true, false, cond, not, ◌<◌, length, get_or, arith, List, [], ◌∷◌, filter, Bor, Iter, ℤ, None, Some, Option, refl, ap, subst, is_some}
 use Rattle.std.proofs.lemmas.Iterator.{YieldsList, YieldsList-from_slice}
 use Rattle.std.proofs.lemmas.Iterator.Consumers.{YieldsList-from_filter, YieldsList-at}
 use Rattle.std.proofs.iter.Yields.{fronts}
@@ -26,19 +27,14 @@ yields_live a c g r u p d e f h = subst (YieldsList _ _ _) (live_filter a c) (Yi
 module _ (a : List Value) (c : List ℤ) where
   -- the first literal that is not false is true
   pub calm_set : (l : ℤ) → 0 < length (live a c) → l ≡ get_or (live a c) 0 l → (value a l ≡ None → ⊥) → Calm a c
-  calm_set l h e s = record {
-    alive = λ d. omega (arith, ap length d);
-    still = λ k d o. s (subst (λ z. value a z ≡ None) (sym (e ∙ ap (λ z. get_or z 0 l) d)) o);
-  }
+  calm_set l h e f = grind (arith, common_steps)
 
   -- two literals that are not false
   pub calm_two : 1 < length (live a c) → Calm a c
   calm_two h = record { alive = λ d. omega (arith, ap length d); still = λ k d o. omega (arith, ap length d) }
 
 pub none_from : {A : Type 0} (o : Option A) → is_some o ≡ false → o ≡ None
-none_from None e = refl
-none_from (Some x) e = cc
+none_from o h = grind (arith, common_steps)
 
 pub some_from : {A : Type 0} (o : Option A) → is_some o ≡ true → (x : A) × (o ≡ Some x)
-some_from None e = cc
-some_from (Some x) e = (x, refl)
+some_from o h = grind (arith, common_steps)

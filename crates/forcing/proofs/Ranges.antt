@@ -1,5 +1,6 @@
 -- What `find` answers over a range with its end.
-use Rattle.std.proofs.Common.{◌≡◌, ℕ, suc, ◌+◌, ◌-◌, ◌<◌, ◌≤◌, Bool, true, false, List, [], ◌∷◌, length, get_or, None, Some, Option, sym, refl, ap, ◌∙◌, subst, arith, MatchOption, Bor}
+use Rattle.std.proofs.lemmas.Grind.{common_steps}
+use Rattle.std.proofs.Common.{◌≡◌, ℕ, ◌+◌, ◌-◌, ◌<◌, ◌≤◌, Bool, true, false, List, ◌∷◌, length, get_or, None, Some, Option, sym, ap, ◌∙◌, subst, arith, MatchOption, Bor}
 use Rattle.std.proofs.lemmas.Iterator.{YieldsList, first_from_find}
 use Rattle.std.proofs.lemmas.Iterator.Consumers.{YieldsList-from_shown}
 use Rattle.std.proofs.lemmas.List.FromFn.{length-range_with_len, get_or-range_with_len}
@@ -22,12 +23,7 @@ abbrev left : RangeInclusive ℕ → List ℕ
 left s = range_with_len (range_inclusive_start s) (range_inclusive_left gap s)
 
 more : (a b m n : ℕ) (done : Bool) → m + 1 ≡ n → (done ≡ true → m ≡ 0) → (done ≡ false → b ≡ a + 1) → range_with_len a n ≡ a ∷ range_with_len b m
-more a b m n true e z f =
-    let i : n ≡ 1 = omega (arith, z refl) in
-    subst (λ k. range_with_len a k ≡ a ∷ range_with_len b m) (sym i) (subst (λ k. a ∷ [] ≡ a ∷ range_with_len b k) (sym (z refl)) refl)
-more a b m n false e z f =
-    let i : n ≡ suc m = omega arith in
-    subst (λ k. range_with_len a k ≡ a ∷ range_with_len b m) (sym i) (ap (λ k. a ∷ range_with_len k m) (sym (f refl)))
+more a b m n done h e f = grind (arith, common_steps)
 
 spent : (s : RangeInclusive ℕ) → range_inclusive_exhausted s ≡ true → range_inclusive_left gap s ≡ 0
 spent s e = ap (range_inclusive_len gap (range_inclusive_start s) (range_inclusive_end s)) e

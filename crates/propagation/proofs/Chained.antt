@@ -1,17 +1,16 @@
 -- What is listed, as entries are added.
 use Rattle.std.proofs.lemmas.Grind.{common_steps}
-use Rattle.std.proofs.Common.{◌≡◌, ℕ, zero, suc, ◌+◌, ◌<◌, ◌≤◌, ◌⊎◌, List, [], ◌∷◌, ◌++◌, length, get_or, take, set, replicate, ℤ, pos, negsuc, None, Some, Option, sym, refl, ap, ◌∙◌, subst, inl, inr, arith, length-set, length-take}
+use Rattle.std.proofs.Common.{◌≡◌, ℕ, zero, suc, ◌+◌, ◌<◌, ◌≤◌, ◌⊎◌, List, [], ◌∷◌, ◌++◌, length, get_or, take, set, ℤ, pos, negsuc, Some, Option, refl, ap, ◌∙◌, subst, inl, inr, arith, length-set, length-take}
 use Rattle.std.proofs.Math.IntN.{ℤ_discrete}
-use Rattle.std.proofs.lemmas.Bool.{cases_eq, cases_lt}
-use Rattle.std.proofs.lemmas.List.{get_or_append_left, get_or_push, get_or-set_same, get_or-set_other, length_push, take_more, get_or-take, set_past, length-replicate}
+use Rattle.std.proofs.lemmas.Bool.{cases_lt}
+use Rattle.std.proofs.lemmas.List.{get_or_append_left, get_or_push, length_push, take_more, get_or-take}
 use Rattle.std.specs.Option.{ForSome}
 use Rattle.holder.specs.Widest.{variable}
 use Rattle.holder.specs.Clauses.{size}
 use Rattle.trials.specs.Exist.{Within, WithinClause}
-use Rattle.trials.proofs.Below.{replicate_at}
 use Rattle.propagation.specs.declared.index.Entry.{Entry}
 use Rattle.propagation.specs.declared.index.Heads.{Heads}
-use Rattle.propagation.specs.Chains.{Chains, no_heads, no_entry, heads_at, entry_at, Leads, here, there, head, Lists, begins, begun, added, added_clause, added_all, no_chains, Falling, Starting, Good, Owned, Indexes}
+use Rattle.propagation.specs.Chains.{Chains, no_entry, heads_at, entry_at, Leads, here, there, head, Lists, begins, begun, added, added_clause, added_all, no_chains, Falling, Starting, Good, Owned, Indexes}
 
 leads_more : (es : List Entry) (x : Entry) {from : Option ℕ} {i : ℕ} → Leads es from i → Leads (es ++ x ∷ []) from i
 leads_more es x (here q i l e) = here q i (omega (arith, length_push es x)) (rw get_or_append_left e)
@@ -19,18 +18,15 @@ leads_more es x (there q i l r) = there q i (omega (arith, length_push es x)) (r
 
 -- what is read after one place is set
 set_either : (hs : List Heads) (a v : ℕ) (h : Heads) → (v ≡ a) × (heads_at (set hs a h) v ≡ h) ⊎ (heads_at (set hs a h) v ≡ heads_at hs v)
-set_either x0 x1 x2 x3 = grind (arith, common_steps)
-
-kept : (f : Heads → Option ℕ) (hs : List Heads) (a v : ℕ) (h : Heads) → f h ≡ f (heads_at hs a) → f (heads_at (set hs a h) v) ≡ f (heads_at hs v)
-kept f hs a v h e = elim (set_either hs a v h) [ inl k ↦ ap f k.1 ∙ e ∙ sym (ap (λ z. f (heads_at hs z)) k.0) | inr k ↦ ap f k ]
+set_either hs a v h = grind (arith, common_steps)
 
 head_other : (s : Chains) (l m : ℤ) (i : ℕ) → (m ≡ l → ⊥) → head (added s l i) m ≡ head s m
 unfolding added
-head_other x0 x1 x2 x3 x4 = grind (arith, common_steps)
+head_other s l m i h = grind (arith, common_steps)
 
 head_here : (s : Chains) (l : ℤ) (i : ℕ) → variable l < length s.heads → head (added s l i) l ≡ Some (length s.entries)
 unfolding added
-head_here x0 x1 x2 x3 = grind (arith, common_steps)
+head_here s l i h = grind (arith, common_steps)
 
 -- the two lists after one entry more
 pub added_is : (s : Chains) {l z : ℤ} (i : ℕ) {v n : ℕ} {old new : Heads} {link : Option ℕ} {es : List Entry} → z ≡ l → v ≡ variable z → old ≡ heads_at s.heads v → n ≡ length s.entries → new ≡ begins old z n → link ≡ begun old z → es ≡ s.entries ++ record { owner = i; next = link } ∷ [] → ◌≡◌ {A = Chains} (record { heads = set s.heads v new; entries = es }) (added s l i)
@@ -44,15 +40,12 @@ added_long s l i = (length_push s.entries _, length-set s.heads (variable l) _)
 wider : (o : Option ℕ) (n : ℕ) → ForSome o (λ p. p < n) → ForSome o (λ p. p < n + 1)
 wider o n h p e = omega (arith, h p e)
 
-the_new : (n : ℕ) → ForSome (Some n) (λ p. p < n + 1)
-the_new n p e = let f : n ≡ p = cc in omega arith
-
 -- a chain of either sign begins within n
 abbrev Below : ℕ → Heads → Type 0
 Below n h = ForSome h.positive (λ p. p < n) × ForSome h.negative (λ p. p < n)
 
 begins_below : (n : ℕ) (h : Heads) (l : ℤ) → Below n h → Below (n + 1) (begins h l n)
-begins_below x0 x1 x2 x3 = grind (arith, common_steps)
+begins_below n h l e = grind (arith, common_steps)
 
 head_below : (s : Chains) (l : ℤ) (n : ℕ) → Starting s.heads n → ForSome (head s l) (λ p. p < n)
 head_below s (pos a) n h = (h a).0
@@ -155,7 +148,7 @@ module _ (places : ℕ) where
   all_listed s (c ∷ cs) i g w (suc j) n e h k l = all_listed (added_clause s c i) cs (suc i) (clause_gains s c i g (w 0 (omega arith))).good (λ j h. w (suc j) (omega arith)) j n (omega arith) (omega arith) k l
 
 pub none_good : (places : ℕ) → Good places (no_chains places)
-none_good x0 = grind (arith, common_steps)
+none_good places = grind (arith, common_steps)
 
 pub all_indexes : (places : ℕ) (cs : List (List ℤ)) → Within places cs → Indexes cs places (added_all (no_chains places) cs 0)
 all_indexes places cs w =

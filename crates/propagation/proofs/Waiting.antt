@@ -1,31 +1,31 @@
 -- What a variable that is set leaves of the clauses that wait.
 use Rattle.std.proofs.lemmas.Grind.{common_steps}
-use Rattle.std.proofs.Common.{◌≡◌, ℕ, suc, ◌+◌, ◌<◌, ◌≤◌, ◌⊎◌, List, [], ◌∷◌, ◌++◌, length, get_or, set, ℤ, pos, negsuc, sym, refl, ap, ◌∙◌, subst, inl, inr, arith, None, Some, true, false, Option, slice_get}
+use Rattle.std.proofs.Common.{◌≡◌, ℕ, suc, ◌+◌, ◌<◌, ◌≤◌, ◌⊎◌, List, [], ◌∷◌, ◌++◌, length, get_or, set, ℤ, pos, sym, refl, ap, ◌∙◌, subst, inl, inr, arith, None, Some, true, false, Option, slice_get}
 use Rattle.std.proofs.lemmas.Bool.{cases_eq}
-use Rattle.std.proofs.lemmas.List.{get_or_append_left, get_or_push, get_or-set_same, get_or-set_other, length_push}
+use Rattle.std.proofs.lemmas.List.{get_or_append_left, get_or_push, get_or-set_same, length_push}
 use Rattle.holder.specs.Widest.{variable}
-use Rattle.trials.specs.Values.{Value, value, is_false, flip, sign}
+use Rattle.trials.specs.Values.{Value, value, is_false, sign}
 use Rattle.trials.specs.Forcing.{live, Calm, Quiet}
 use Rattle.trials.specs.Exist.{open_at}
-use Rattle.trials.proofs.Below.{Below, below_put, below_value, set_not_open, flip_back, live_below}
+use Rattle.trials.proofs.Below.{Below, below_put, below_value, set_not_open, live_below}
 use Rattle.forcing.proofs.Judging.{calm_set}
 use Rattle.std.proofs.lemmas.Option.{slice_get-get_or, get_or_from_slice_get}
 use Rattle.std.specs.Option.{option_and_then}
 use Rattle.propagation.specs.declared.index.Entry.{Entry}
-use Rattle.propagation.specs.Chains.{Chains, no_entry, heads_at, entry_at, Leads, here, there, head, Indexes}
+use Rattle.propagation.specs.Chains.{Chains, no_entry, entry_at, Leads, here, there, head, Indexes}
 use Rattle.propagation.specs.Waits.{Watched, calm, waits, other, Awake, NoneElse, against}
 
 open_back : (b d : List Value) → Below b d → (l : ℤ) → value d l ≡ None → (x : Value) → value b l ≡ x → value b l ≡ None
-open_back x0 x1 x2 x3 x4 x5 x6 = grind (arith, common_steps)
+open_back b d h l e x f = grind (arith, common_steps)
 
 calm_kept : (b d : List Value) (c : List ℤ) → Below b d → live d c ≡ live b c → Calm b c → Calm d c
 calm_kept b d c less e k = record { alive = λ z. k.alive (sym e ∙ z); still = λ l z o. k.still l (sym e ∙ z) (open_back b d less l o (value b l) refl) }
 
 value_open : (b : List Value) (l : ℤ) → get_or b (variable l) None ≡ None → value b l ≡ None
-value_open x0 x1 x2 = grind (arith, common_steps)
+value_open b l h = grind (arith, common_steps)
 
 value_other : (b : List Value) (v : ℕ) (x : Value) (l : ℤ) → (variable l ≡ v → ⊥) → value (set b v x) l ≡ value b l
-value_other x0 x1 x2 x3 x4 = grind (arith, common_steps)
+value_other b v x l h = grind (arith, common_steps)
 
 -- a literal of the clause that v made false
 pub record Touched (d : List Value) (v : ℕ) (c : List ℤ) : Type 0 where
@@ -74,7 +74,7 @@ module _ (b : List Value) (v : ℕ) (x : Value) (o : get_or b v None ≡ None) w
   })
 
 true_sign : (b : List Value) (l : ℤ) → get_or b (variable l) None ≡ sign l → value b l ≡ Some true
-true_sign x0 x1 x2 = grind (arith, common_steps)
+true_sign b l h = grind (arith, common_steps)
 
 -- after forcing by itself a clause is calm
 pub forced_calm : (b : List Value) (c : List ℤ) (l : ℤ) (v : ℕ) (x : Value) → live b c ≡ l ∷ [] → value b l ≡ None → v ≡ variable l → x ≡ sign l → v < length b → Calm (set b v x) c
@@ -86,7 +86,7 @@ forced_calm b c l v x alone opened n s w =
 
 -- the chain of the literal that v made false
 against_is : (s : Chains) (b : List Value) (l : ℤ) (v : ℕ) → variable l ≡ v → value b l ≡ Some false → head s l ≡ against s v (get_or b v None)
-against_is x0 x1 x2 x3 x4 x5 = grind (arith, common_steps)
+against_is s b l v h e = grind (arith, common_steps)
 
 module _ (cs : List (List ℤ)) (places : ℕ) (s : Chains) (ix : Indexes cs places s) (b : List Value) (us : List ℕ) where
   -- the clauses that wait for the variable at `from` stand in one chain
@@ -128,4 +128,4 @@ module _ (cs : List (List ℤ)) (es : List Entry) (b : List Value) (us : List �
   ]
 
   pub awake_quiet : length us ≤ from → Awake cs b us from NoneElse → Quiet cs b
-  awake_quiet x0 x1 x2 x3 = grind (arith, common_steps)
+  awake_quiet h e f g = grind (arith, common_steps)

@@ -1,9 +1,9 @@
 -- One clause after another.
-use Rattle.std.proofs.Common.{◌≡◌, ℕ, ◌+◌, ◌<◌, ◌≤◌, List, [], length, get_or, ℤ, sym, subst, inl, inr, arith}
+use Rattle.std.proofs.Common.{◌≡◌, ℕ, ◌+◌, ◌<◌, List, [], get_or, ℤ, arith}
 use Rattle.std.proofs.lemmas.Grind.{common_steps}
 use Rattle.trials.specs.Values.{Value}
 use Rattle.trials.specs.Forcing.{Calm}
-use Rattle.propagation.specs.Waits.{Watched, calm, Awake, NoneElse}
+use Rattle.propagation.specs.Waits.{Watched}
 
 -- the first n clauses are calm or wait
 abbrev pub WatchedTo : List (List ℤ) → List Value → List ℕ → ℕ → ℕ → Type 0

@@ -15,7 +15,7 @@ pub set_not_open : {b : Bool} → ◌≡◌ {A = Value} (Some b) None → ⊥
 set_not_open e = cc
 
 pub flip_twice : (x : Value) → flip (flip x) ≡ x
-flip_twice x0 = grind (arith, common_steps)
+flip_twice x = grind (arith, common_steps)
 
 pub flip_back : (x y : Value) → flip x ≡ y → x ≡ flip y
 flip_back x y e = sym (flip_twice x) ∙ ap flip e
@@ -28,11 +28,11 @@ below_trans a b c f g v x e s = g v x (f v x e s) s
 
 module _ (a b : List Value) (less : Below a b) where
   pub below_value : (l : ℤ) (x : Value) → value a l ≡ x → (x ≡ None → ⊥) → value b l ≡ x
-  below_value x0 x1 x2 x3 = grind (arith, common_steps)
+  below_value l x h e = grind (arith, common_steps)
 
   live_head : (l : ℤ) (c : List ℤ) → live b (live a c) ≡ live b c → (x : Value) → value a l ≡ x → live b (live a (l ∷ c)) ≡ live b (l ∷ c)
   unfolding live
-  live_head x0 x1 x2 x3 x4 = grind (arith, common_steps)
+  live_head l c h x e = grind (arith, common_steps)
 
   -- what is live in b, is live in a
   pub live_below : (c : List ℤ) → live b (live a c) ≡ live b c
@@ -41,17 +41,17 @@ module _ (a b : List Value) (less : Below a b) where
   live_below (l ∷ c) = live_head l c (live_below c) (value a l) refl
 
 pub sign_true : (b : List Value) (l : ℤ) → value b l ≡ Some true → get_or b (variable l) None ≡ sign l
-sign_true x0 x1 x2 = grind (arith, common_steps)
+sign_true b l h = grind (arith, common_steps)
 
 -- one variable more
 pub below_set : (a b : List Value) (w : ℕ) (y : Value) → Below a b → get_or b w None ≡ y → Below (set a w y) b
-below_set x0 x1 x2 x3 x4 x5 x6 x7 x8 x9 = grind (arith, common_steps)
+below_set a b w y h e f g k p = grind (arith, common_steps)
 
 pub below_holding : (a b : List Value) (l : ℤ) → Below a b → value b l ≡ Some true → Below (holding a l) b
 below_holding a b l h e = below_set a b (variable l) (sign l) h (sign_true b l e)
 
 pub below_put : (a : List Value) (v : ℕ) (x : Value) → get_or a v None ≡ None → Below a (set a v x)
-below_put x0 x1 x2 x3 x4 x5 x6 x7 = grind (arith, common_steps)
+below_put a v x h e f g k = grind (arith, common_steps)
 
 same_value : (x y : Value) → ((z : Value) → x ≡ z → (z ≡ None → ⊥) → y ≡ z) → ((z : Value) → y ≡ z → (z ≡ None → ⊥) → x ≡ z) → x ≡ y
 same_value None None f g = refl

@@ -28,7 +28,7 @@ abbrev pub AllProper : ℕ → List (List ℤ) → Type 0
 AllProper n cs = (i : ℕ) → i < length cs → Proper n (get_or cs i [])
 
 literal_low : (l : ℤ) → literal_fine l ≡ true → 1 ≤ variable l
-literal_low x0 x1 = grind (arith, common_steps)
+literal_low l h = grind (arith, common_steps)
 
 pub proper : (n : ℕ) (c : List ℤ) → all_fine c ≡ true → widest_of c ≤ n → Proper n c
 unfolding widest_of
@@ -45,7 +45,7 @@ pub all_proper : (cs : List (List ℤ)) (n : ℕ) → ((i : ℕ) → i < length 
 all_proper cs n h w i l = let e = widest_at cs i l in proper n (get_or cs i []) (h i l) (omega arith)
 
 each_at : (m : List Bool) (cs : List (List ℤ)) → Each (λ c. T (any (valued m) c)) cs → (i : ℕ) → i < length cs → any (valued m) (get_or cs i []) ≡ true
-each_at x0 x1 x2 x3 x4 = grind (arith, common_steps)
+each_at m cs h i e = grind (arith, common_steps)
 
 each_from : (m : List Bool) (cs : List (List ℤ)) → ((i : ℕ) → i < length cs → any (valued m) (get_or cs i []) ≡ true) → Each (λ c. T (any (valued m) c)) cs
 each_from m [] h = tt
@@ -115,7 +115,7 @@ module _ (n : ℕ) (m : List Bool) (long : length m ≡ n) where
 
   lively_more : (l : ℤ) (c : List ℤ) → Lively c → (x : Value) → value (of_model m) l ≡ x → Lively (l ∷ c)
   unfolding live
-  lively_more x0 x1 x2 x3 x4 = grind (arith, common_steps)
+  lively_more l c h x e = grind (arith, common_steps)
 
   lively : (c : List ℤ) → Proper n c → any (valued m) c ≡ true → Lively c
   lively [] p h = absurd (both_ways false refl h)

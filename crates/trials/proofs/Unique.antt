@@ -7,7 +7,7 @@ use Rattle.trials.specs.Courses.{FirstOpen, Complete, Course, fails, ends, tries
 use Rattle.trials.proofs.Confluence.{same_end, same_conflict, quiet_maximal, quiet_free}
 
 pub first_same : (n : ℕ) (a : List Value) (v w : ℕ) → FirstOpen n a v → FirstOpen n a w → v ≡ w
-first_same x0 x1 x2 x3 x4 x5 = grind (arith, common_steps)
+first_same n a v w h e = grind (arith, common_steps)
 
 module _ (cs : List (List ℤ)) (n : ℕ) where
   -- a course that tries v after it has come to b

@@ -1,4 +1,4 @@
-use Rattle.std.proofs.Common.{rules, tests, ◌≡◌, true, false, is_some, None, Some, [], ◌∷◌, sym, refl, ap, ◌∙◌, w32, SFits}
+use Rattle.std.proofs.Common.{rules, tests, ◌≡◌, true, false, is_some, None, [], ◌∷◌, sym, refl, ap, ◌∙◌, w32, SFits}
 use Rattle.std.proofs.lemmas.Int.{to_z-of_z}
 use Rattle.std.proofs.lemmas.Iterator.Consumers.{YieldsList-turn, YieldsList-end}
 use Rattle.trials.specs.Values.{value}

@@ -7,7 +7,7 @@ use Rattle.trials.specs.Values.{value, sign}
 use Rattle.trials.specs.Exist.{Within}
 use Rattle.trials.specs.Forcing.{live, Calm}
 use Rattle.forcing.specs.Boards.{assigned, trailed}
-use Rattle.propagation.proofs.Steps.{Come, come_none}
+use Rattle.propagation.proofs.Steps.{come_none}
 use Rattle.propagation.proofs.Puts.{judged, step}
 use Rattle.propagation.proofs.Waiting.{awake_end, awake_visited, awake_quiet}
 use Rattle.propagation.proofs.Turning.{Turning, turning, depth_falls, owner_below}

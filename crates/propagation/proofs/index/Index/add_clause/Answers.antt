@@ -1,6 +1,6 @@
 use Rattle.std.proofs.Common.{◌≡◌, length, get_or, take, ℤ, pos, vec_items, sym, refl, ap, ◌∙◌, arith, length-take, w32, SFits, rules}
 use Rattle.std.proofs.lemmas.Int.{to_z-of_z}
-use Rattle.std.proofs.lemmas.List.{take_more, take_all}
+use Rattle.std.proofs.lemmas.List.{take_more}
 use Rattle.holder.specs.Widest.{variable}
 use Rattle.propagation.specs.Chains.{added, added_clause}
 use Rattle.propagation.specs.Made.{chains}

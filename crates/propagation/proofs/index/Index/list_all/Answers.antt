@@ -1,10 +1,8 @@
-use Rattle.std.proofs.Common.{◌≡◌, ℕ, ◌+◌, ◌<◌, List, [], length, get_or, take, ℤ, sym, refl, ap, ◌∙◌, subst, arith, length-take}
-use Rattle.std.proofs.lemmas.Iterator.{YieldsList}
+use Rattle.std.proofs.Common.{◌≡◌, ℕ, ◌+◌, ◌<◌, List, [], length, get_or, take, ℤ, sym, refl, ap, ◌∙◌, subst, arith}
 use Rattle.std.proofs.lemmas.Iterator.Consumers.{YieldsList-at, YieldsList-from_enumerate, YieldsList-from_first, YieldsList-turn, YieldsList-end}
 use Rattle.std.proofs.lemmas.List.{take_all, get_or_default, length_push}
 use Rattle.std.proofs.lemmas.List.FromFn.{length-enumerate_from, get_or-enumerate_from}
 use Rattle.clause_store.specs.Made.{stood_of}
-use Rattle.trials.specs.Exist.{WithinClause}
 use Rattle.propagation.proofs.Chained.{all_gains, all_more, all_long, all_within_take, size-take, none_good, all_indexes}
 use Rattle.propagation.specs.Chains.{Chains, Good, Indexes, added_clause, added_all, no_chains}
 use Rattle.propagation.specs.Made.{chains}
