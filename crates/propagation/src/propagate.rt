@@ -45,6 +45,7 @@ pub fn propagate(board: &mut Board, store: &Store, index: &Index, start: usize) 
         let mut link = index.against(v, value_at(board.values(), v));
         'chain: while let Some(entry) = index.entry(link) {
             link = entry.next;
+            // The same choice stands in `wake`: a function for it would answer whether to go on, for both to ask again.
             match judge(board.values(), store.clause(entry.owner)) {
                 Judgement::Dead => return false,
                 Judgement::Forces(lit) => board.put(variable(lit), sign(lit)),
