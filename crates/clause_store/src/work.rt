@@ -47,7 +47,8 @@ impl Store {
     // How many literals are held in all.
     #[tactic(auto, using(crate::proofs::Cuts::sizes))]
     pub fn size(&self) -> usize
-        ensures { result ≡ clauses.size (stood_of self.now).held }
+        ensures value { result ≡ clauses.size (stood_of self.now).held }
+        ensures few { result ≤ most_held }
     {
         self.literals.len()
     }

@@ -2,10 +2,18 @@
 ghost use Rattle.std.specs.Prelude.{◌≡◌, ◌<◌, ◌≤◌, [], ◌++◌, length, IfOk, string_bytes, OnOk, slice_index_or};
 ghost use Rattle.runs.specs.Clauses.{joined};
 ghost use Rattle.holder.specs.Clauses.{size};
-ghost use Rattle.dimacs.specs.Text.{clause_text, page_text};
+ghost use Rattle.dimacs.specs.Text.{literal_text, clause_text, page_text};
 
 use holder::held::Holder;
 use std::alloc::{AllocError, Global};
+
+// A literal and a space. The space is pushed: as part of what `write!` writes it would take as long as the number again.
+fn write_literal(out: &mut String, l: i32) -> Result<(), AllocError>
+    ensures { OnOk result (string_bytes out.new ≡ string_bytes out.old ++ literal_text l) }
+{
+    write!(out, "{l}")?;
+    out.push(' ')
+}
 
 // Clause i; no clause has more literals than most.
 #[tactic(auto, using(crate::proofs::Coming::written))]
@@ -23,7 +31,7 @@ fn write_clause<H: Holder>(
         let Ok(l) = holder.literal(i, j) else {
             break;
         };
-        write!(out, "{l} ")?;
+        write_literal(out, l)?;
     }
     out.push_str("0\n")
 }

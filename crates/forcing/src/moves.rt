@@ -59,11 +59,18 @@ impl Board {
         self.values.as_slice()
     }
 
-    // The variable that was set as number k, from 0.
-    pub fn set_at(&self, k: usize) -> Option<usize>
+    // The variable that was set as number k, from 0, where there is one.
+    pub fn nth_set(&self, k: usize) -> Option<usize>
         ensures { result ≡ slice_get (trailed self.now) k }
     {
         self.trail.get(k).copied()
+    }
+
+    // The same for those to whom no variable is 0, of which the board has no value.
+    pub fn set_at(&self, k: usize) -> usize
+        ensures { result ≡ slice_index (trailed self.now) k }
+    {
+        self.nth_set(k).unwrap_or(0)
     }
 
     // Sets an open variable; leaves one that is set, or that there is not.

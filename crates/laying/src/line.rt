@@ -1,9 +1,8 @@
 // A literal, the literals of one sign, and one clause as it is being written.
-ghost use Rattle.std.specs.Prelude.{◌≡◌, ◌<◌, ◌≤◌, true, length};
+ghost use Rattle.std.specs.Prelude.{◌≡◌, ◌<◌, ◌≤◌, true, take};
 ghost use Rattle.refusals.specs.Limits.{most_variables, longest_clause};
 ghost use Rattle.holder.specs.Clauses.{all_fine};
 
-use arrayvec::ArrayVec;
 use refusals::limits::LONGEST_CLAUSE;
 
 // That a variable is true, or that it is false.
@@ -22,10 +21,11 @@ pub struct Literals {
     pub past: u32,
 }
 
-// The literals so far. Proofs see the list of an ArrayVec and not its capacity, so that is stated.
-#[derive(Drop)]
+// The literals so far, in the first places. An ArrayVec would not be `Copy`, as a line is.
+#[derive(Copy)]
 pub struct Line {
-    pub(crate) literals: ArrayVec<i32, LONGEST_CLAUSE>,
-    ghost room: { length literals.items ≤ longest_clause },
-    ghost fine: { all_fine literals.items ≡ true },
+    pub(crate) places: [i32; LONGEST_CLAUSE],
+    pub(crate) used: usize,
+    ghost room: { used ≤ longest_clause },
+    ghost fine: { all_fine (take used places) ≡ true },
 }

@@ -6,8 +6,7 @@ ghost use Rattle.laying.specs.Lines.{signed};
 ghost use Rattle.laying.specs.Written.{lits, value};
 
 use crate::line::{Line, Literal, Literals};
-use arrayvec::ArrayVec;
-use refusals::limits::MOST_VARIABLES;
+use refusals::limits::{LONGEST_CLAUSE, MOST_VARIABLES};
 use std::alloc::AllocError;
 
 impl Literal {
@@ -61,16 +60,14 @@ impl Literals {
     }
 }
 
-// A copy is asked for, since an ArrayVec is none by itself.
+// By hand, so that a clone is promised to have the same literals.
 impl Clone for Line {
     ghost is_clone = { λ l m. lits m ≡ lits l };
 
     ghost is_infallible = { λ _. Unit {0} };
 
     fn clone(&self) -> Result<Line, AllocError> {
-        Ok(Line {
-            literals: self.literals.clone()?,
-        })
+        Ok(*self)
     }
 }
 
@@ -79,17 +76,18 @@ impl Line {
         ensures { lits result ≡ [] }
     {
         Line {
-            literals: ArrayVec::new(),
+            places: [0; LONGEST_CLAUSE],
+            used: 0,
         }
     }
 
     // One literal more, while there is room.
-    #[tactic(auto, using(crate::proofs::Pushed::fine_push))]
     pub fn push(&mut self, l: Literal)
         ensures { lits self.new ≡ take longest_clause (lits self.old ++ value l ∷ []) }
     {
-        if !self.literals.is_full() {
-            self.literals.push(i32::from(l));
+        if self.used < LONGEST_CLAUSE {
+            self.places[self.used] = i32::from(l);
+            self.used += 1;
         }
     }
 
@@ -98,6 +96,6 @@ impl Line {
         ensures few { length result.now ≤ longest_clause }
         ensures fine { all_fine result.now ≡ true }
     {
-        self.literals.as_slice()
+        &self.places[..self.used]
     }
 }

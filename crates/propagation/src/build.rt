@@ -1,6 +1,6 @@
 // Making the index of a store's clauses.
 ghost use Rattle.std.specs.Prelude.{◌≡◌, ℕ, ◌+◌, ◌<◌, ◌≤◌, length, IfOk};
-ghost use Rattle.refusals.specs.Limits.{most_variables};
+ghost use Rattle.refusals.specs.Limits.{most_variables, most_held};
 ghost use Rattle.holder.specs.Clauses.{size};
 ghost use Rattle.holder.specs.Widest as wide;
 ghost use Rattle.clause_store.specs.Made.{stood_of};
@@ -17,7 +17,7 @@ use std::alloc::{AllocError, Global};
 
 impl Heads {
     // The chain of the literal begins at an entry; the answer is where it began before.
-    fn begin(&mut self, lit: i32, entry: usize) -> Option<usize>
+    fn begin(&mut self, lit: i32, entry: u32) -> Option<u32>
         ensures before { result ≡ begun self.old lit }
         ensures after { self.new ≡ begins self.old lit entry }
     {
@@ -60,10 +60,11 @@ impl Index {
     fn add(&mut self, lit: i32, owner: usize)
         requires listed { wide.variable lit < length self.old.heads.items }
         requires room { length self.old.entries.items < self.old.most }
+        requires few { length self.old.entries.items < most_held }
         ensures value { chains self.new ≡ added (chains self.old) lit owner }
         ensures most { self.new.most ≡ self.old.most }
     {
-        let entry = self.entries.len();
+        let entry = self.entries.len() as u32;
         let next = self.heads[variable(lit)].begin(lit, entry);
         self.entries.push_reserved(Entry { owner, next });
     }
@@ -71,6 +72,7 @@ impl Index {
     fn add_clause(&mut self, clause: &[i32], i: usize)
         requires within { WithinClause (length self.old.heads.items) clause.now }
         requires room { length self.old.entries.items + length clause.now ≤ self.old.most }
+        requires few { length self.old.entries.items + length clause.now ≤ most_held }
         ensures value { chains self.new ≡ added_clause (chains self.old) clause.now i }
         ensures most { self.new.most ≡ self.old.most }
     {
@@ -83,6 +85,7 @@ impl Index {
         requires few { n ≤ most_variables }
         requires within { Within (n + 1) (stood_of store.now).held }
         requires room { size (stood_of store.now).held ≤ self.old.most }
+        requires held { size (stood_of store.now).held ≤ most_held }
         ensures value { Indexes (stood_of store.now).held (n + 1) (chains self.new) }
         ensures most { self.new.most ≡ self.old.most }
     {

@@ -15,7 +15,7 @@ use forcing::judge::{Judgement, judge, sign, value_at};
 
 impl Index {
     // Where the chain of the literal of v begins that is false where v has the value.
-    fn against(&self, v: usize, value: Option<bool>) -> Option<usize>
+    fn against(&self, v: usize, value: Option<bool>) -> Option<u32>
         ensures { result ≡ waiting.against (chains self.now) v value }
     {
         let heads = self.heads.get(v)?;
@@ -27,10 +27,10 @@ impl Index {
     }
 
     // The entry at which a chain goes on.
-    fn entry(&self, link: Option<usize>) -> Option<Entry>
+    fn entry(&self, link: Option<u32>) -> Option<Entry>
         ensures { result ≡ entry_of (chains self.now) link }
     {
-        self.entries.get(link?).copied()
+        self.entries.get(link? as usize).copied()
     }
 }
 
@@ -40,7 +40,7 @@ pub fn propagate(board: &mut Board, store: &Store, index: &Index, start: usize) 
 {
     // By number, since the trail grows while the loop goes through it.
     let mut from = start;
-    'queue: while let Some(v) = board.set_at(from) {
+    'queue: while let Some(v) = board.nth_set(from) {
         from += 1;
         let mut link = index.against(v, value_at(board.values(), v));
         'chain: while let Some(entry) = index.entry(link) {

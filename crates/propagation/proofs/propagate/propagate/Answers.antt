@@ -20,7 +20,7 @@ use Rattle.propagation.proofs.propagate.propagate.Goals as goal
 
 -- the variable of the queue
 queued : (c : In-Some) → slice_get (trailed c.queue.board) c.queue.from ≡ Some c.in-Some.v
-queued c = sym c.set_at.ensures ∙ c.in-Some.is
+queued c = sym c.nth_set.ensures ∙ c.in-Some.is
 
 in_queue : (c : In-Some) → c.queue.from < length (trailed c.queue.board)
 in_queue c = slice_get_within _ _ _ (queued c)
@@ -29,7 +29,7 @@ in_queue c = slice_get_within _ _ _ (queued c)
 turned : (c : After-against-link) → Ready (stood_of c.args.store.now).held (chains c.args.index.now) (assigned c.args.board.now) (trailed c.args.board.now) c.args.start → Turning (stood_of c.args.store.now).held (chains c.args.index.now) (assigned c.queue.board) (trailed c.queue.board) (c.queue.from + 1) c.against-link.result
 turned c rd =
     let q = c.queue.invariant rd in
-    let k : slice_get (trailed c.queue.board) c.queue.from ≡ Some c.in-Some.v = sym c.set_at.ensures ∙ c.in-Some.is in
+    let k : slice_get (trailed c.queue.board) c.queue.from ≡ Some c.in-Some.v = sym c.nth_set.ensures ∙ c.in-Some.is in
     turning _ _ _ _ _ rd _ _ _ q.0 q.2 (slice_get_within _ _ _ k) c.in-Some.v _ k (c.against-link.ensures ∙ ap (against (chains c.args.index.now) c.in-Some.v) (c.value_at.ensures ∙ ap (λ z. get_or z c.in-Some.v None) c.values.ensures))
 
 -- the clause of the chain
@@ -93,4 +93,4 @@ past xs k e = elim (slice_get_cases xs k).1 [ inl h ↦ (let z : Some h.0 ≡ No
 pub returns : goal.returns
 returns c rd =
     let q = c.queue.invariant rd in
-    record { run = q.0.run; back = q.0.back; end = awake_quiet _ (chains c.args.index.now).entries _ _ _ (past _ _ (sym c.set_at.ensures ∙ c.in_default.is)) q.2 }
+    record { run = q.0.run; back = q.0.back; end = awake_quiet _ (chains c.args.index.now).entries _ _ _ (past _ _ (sym c.nth_set.ensures ∙ c.in_default.is)) q.2 }

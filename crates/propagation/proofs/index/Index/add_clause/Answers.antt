@@ -26,6 +26,7 @@ add-requires c =
     record {
       listed = omega (arith, ap (λ z. length z.heads) h, clause_heads (chains s) (take k xs) c.args.i);
       room = omega (arith, ap (λ z. length z.entries) h, clause_long (chains s) (take k xs) c.args.i, c.requires.room, c.loop-lit-test.true);
+      few = omega (arith, ap (λ z. length z.entries) h, clause_long (chains s) (take k xs) c.args.i, c.requires.few, c.loop-lit-test.true);
     }
 
 pub loop-lit-preserved : goal.loop-lit-preserved

@@ -36,6 +36,7 @@ add_clause-requires c =
     record {
       within = rw (g.long, t.2) (c.requires.within k t.0);
       room = omega (arith, size-take cs k t.0, ap length t.2, c.requires.room, c.loop-i.invariant.1, c.clear.ensures.most);
+      few = omega (arith, size-take cs k t.0, ap length t.2, c.requires.held);
     }
 
 pub loop-i-preserved : goal.loop-i-preserved
