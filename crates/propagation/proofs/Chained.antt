@@ -247,3 +247,14 @@ within_take places (l ∷ c) (suc k) w = (w.0, within_take places c k w.1)
 
 set_bound : (xs : List ℕ) (n x v top : ℕ) → get_or xs v 0 ≤ top → x ≤ top → get_or (set xs n x) v 0 ≤ top
 set_bound xs n x v top h k = grind (arith, common_steps)
+
+-- of one variable: its chains begin within one entry more
+added_start : (s : Chains) (l : ℤ) (i v : ℕ) → Below (length s.entries) (heads_at s.heads v) → Below (length s.entries + 1) (heads_at (added s l i).heads v)
+unfolding added
+added_start s l i v h =
+    let n = length s.entries in
+    let a = variable l in
+    elim (set_either s.heads a v (begins (heads_at s.heads a) l n)) [
+      | inl k ↦ rw k.1 (begins_below n (heads_at s.heads a) l (subst (λ z. Below n (heads_at s.heads z)) k.0 h))
+      | inr k ↦ rw k (wider _ n h.0, wider _ n h.1)
+    ]
