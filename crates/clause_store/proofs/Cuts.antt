@@ -94,3 +94,12 @@ pub ruleset cutting = (nat_tests, length-cut_up, size-cut_up, cut_up-take, end_b
 pub ruleset places = (cut_up_at, end_step, length-cut_up, get_or_past)
 
 pub ruleset ends = (end_of_none, end_of_some, get_or_read)
+
+-- nothing held
+pub ordered_start : ordered 0 [] 0 ≡ true
+unfolding ordered
+ordered_start = refl
+
+pub cut_up_none : (xs : List ℤ) → cut_up 0 [] xs ≡ []
+unfolding cut_up
+cut_up_none xs = refl

@@ -1,5 +1,5 @@
 -- No fault is found in a record exactly if it has the properties that a table asks of it. Assumes nothing.
-use Rattle.std.proofs.Common.{◌≡◌, ℕ, ◌+◌, ◌<◌, ◌≤◌, Bool, true, false, ◌↔◌, List, [], ◌∷◌, length, None, Option, arith}
+use Rattle.std.proofs.Common.{◌≡◌, ℕ, ◌+◌, ◌<◌, ◌≤◌, Bool, true, false, ◌&&◌, ltb, ◌↔◌, List, [], ◌∷◌, length, None, Option, arith}
 use Rattle.std.proofs.lemmas.Bool.Decides.{nat_tests}
 use Rattle.refusals.specs.Limits.{most_facts, most_axioms, most_rules, most_goals, longest_list}
 use Rattle.refusals.specs.declared.refusal.Refusal.{Refusal}
@@ -7,7 +7,7 @@ use Rattle.runs.specs.Problems.{Axiom, Rule, Goal, Problem, Each, Rising, Facts,
 use Rattle.runs.specs.Steps.{any}
 use Rattle.problem.specs.Lists.{every, fact_of, rises, below}
 use Rattle.problem.specs.Views.{takes_from, bars}
-use Rattle.problem.specs.Faults.{first, shape, start_fault, axiom_fault, goal_fault}
+use Rattle.problem.specs.Faults.{unless, first, shape, start_fault, axiom_fault, goal_fault}
 use Rattle.file_format.specs.Fields.{label_fine}
 use Rattle.file_format.specs.Reading.{labelled_fault}
 
@@ -32,7 +32,17 @@ pub record FineGoal (n : ℕ) (g : Goal) : Type 0 where
 pub no : {A : Type 0} → ◌≡◌ {A = ℕ} 0 1 → A
 no z = absurd (omega arith)
 
+unless_none : (b : Bool) (r : Refusal) (rest : Option Refusal) → (unless b r rest ≡ None) ↔ ((b ≡ true) × (rest ≡ None))
+unless_none b r rest = grind arith
+
+first_none : (x y : Option Refusal) → (first x y ≡ None) ↔ ((x ≡ None) × (y ≡ None))
+first_none x y = grind arith
+
 module _ {A : Type 0} where
+  every_iff : (P : A → Bool) (Q : A → Type 0) → ((x : A) → (P x ≡ true) ↔ Q x) → (xs : List A) → (every P xs ≡ true) ↔ Each Q xs
+  every_iff P Q h [] = grind arith
+  every_iff P Q h (x ∷ xs) = grind (arith, h x, every_iff P Q h xs)
+
   -- none passes
   none_iff : (P : A → Bool) (xs : List A) → (any P xs ≡ false) ↔ Each (λ x. P x ≡ false) xs
   none_iff P [] = grind arith
@@ -47,12 +57,17 @@ rising_iff low n [] = grind arith
 rising_iff low n (f ∷ fs) = grind (arith, nat_tests, rising_iff f n fs)
 
 below_iff : (n : ℕ) (fs : List ℕ) → (below n fs ≡ true) ↔ Each (λ f. f < n) fs
-below_iff n [] = grind arith
-below_iff n (f ∷ fs) = grind (arith, nat_tests, below_iff n fs)
+below_iff n fs = every_iff (λ f. ltb f n) (λ f. f < n) (λ f. grind (arith, nat_tests)) fs
 
 spares_iff : (r : Rule) (axs : List Axiom) → ((any (takes_from r) axs ≡ false) × (any (bars r) axs ≡ false)) ↔ Each (Spares r) axs
 spares_iff r [] = grind arith
 spares_iff r (a ∷ axs) = grind (arith, none_iff (removes r) a.premises, spares_iff r axs)
+
+shape_iff : (x y z u : Bool) → (shape x y z u ≡ None) ↔ ((x ≡ true) × (y ≡ true) × (z ≡ true) × (u ≡ true))
+shape_iff x y z u = grind arith
+
+and_three : (x y z : Bool) → ((x && (y && z)) ≡ true) ↔ ((x ≡ true) × (y ≡ true) × (z ≡ true))
+and_three x y z = grind arith
 
 shaped : (x y z u : Bool) (rest : Option Refusal) → (first (shape x y z u) rest ≡ None) ↔ ((x ≡ true) × (y ≡ true) × (z ≡ true) × (u ≡ true) × (rest ≡ None))
 shaped x y z u rest = grind arith

@@ -40,6 +40,9 @@ proper_iff p = grind (arith, axioms_iff p.facts p.axioms, rules_iff p.facts p.ax
 each_push : {A : Type 0} (P : A → Type 0) (xs : List A) (x : A) → Each P xs → P x → Each P (xs ++ x ∷ [])
 each_push P xs x h k = (each-++ P xs (x ∷ [])).1 (h, (k, tt))
 
+one_more : {A : Type 0} (xs : List A) (x : A) (most : ℕ) → length xs < most → length (xs ++ x ∷ []) ≤ most
+one_more xs x most h = omega (arith, length_push xs x)
+
 module _ (p : Problem) (f : Fit p) where
   -- an axiom comes before every rule, since a rule is judged by the axioms before it
   pub fit_axiom : (a : Axiom) → p.rules ≡ [] → axiom_fault p a ≡ None → Fit (with_axiom p a)

@@ -1,14 +1,15 @@
 -- The fields after the start list are read to the end exactly if they add, one by one, records without fault. Assumes nothing.
-use Rattle.std.proofs.Common.{◌≡◌, ℕ, zero, suc, ◌+◌, ◌<◌, ◌≤◌, List, [], ◌++◌, length, Some, None, Option, sym, refl, subst, subst₂, arith}
+use Rattle.std.proofs.Common.{◌≡◌, ℕ, zero, suc, ◌+◌, ◌<◌, ◌≤◌, Bool, cond, ltb, List, [], ◌++◌, length, Some, None, Option, sym, refl, subst, subst₂, arith}
 use Rattle.std.proofs.lemmas.List.{length-append}
 use Rattle.std.proofs.lemmas.Bool.Decides.{nat_tests}
 use Rattle.refusals.specs.declared.refusal.Refusal.{Refusal}
+use Rattle.refusals.specs.declared.refusal.Refusal.TheVariants.{Missing}
 use Rattle.runs.specs.Problems.{Axiom, Rule, Goal, Problem, Each}
 use Rattle.runs.proofs.Built.{each-++}
 use Rattle.problem.specs.Faults.{axiom_fault, goal_fault}
 use Rattle.problem.specs.Tables.{with_axiom, with_rule, with_goal}
 use Rattle.file_format.specs.Fields.{Found, ended, short, wrong, field, next_field, axiom_in_value, rule_in_value, goal_in_value}
-use Rattle.file_format.specs.Reading.{Taken, refused, grown, unless_refused, take_axiom, take_rule, take_goal, take_value, labelled_fault, Read, whole, go_on, after, fields}
+use Rattle.file_format.specs.Reading.{Taken, refused, grown, unless_refused, take_axiom, take_rule, take_goal, take_value, labelled_fault, Read, whole, fault, go_on, after, fields}
 use Rattle.file_format.specs.Layout.{field_bytes}
 use Rattle.file_format.proofs.Values.{axiom_value, rule_value, goal_value, axiom_of, axiom_is, rule_of, rule_is, goal_of, goal_is, field_of, field_is, none_left}
 
@@ -61,8 +62,11 @@ module _ (q : Problem) (rest : ℕ → Problem → ℕ → List ℕ → Read) (i
   value_first low t p at v bs b h k l (refused r) i e = cc
   value_first low t p at v bs b h k l (grown s) i e = next k (adds_from p s v t (omega arith) l i) (ih t s (at + 3 + length v) bs (omega arith) b e)
 
+  ended_there : (low : ℕ) (p : Problem) (at : ℕ) (t : Bool) → ltb 0 (length p.goals) ≡ t → cond t (whole p) (fault Missing at) ≡ whole q → Grows q low p []
+  ended_there low p at t u e = grind (arith, nat_tests, over)
+
   found_first : (low : ℕ) (p : Problem) (at : ℕ) (bs : List ℕ) → 3 ≤ low → Bytes bs → (f : Found) → next_field low 5 bs ≡ f → after rest p at f ≡ whole q → Grows q low p bs
-  found_first low p at bs h b ended i e = let none = none_left low 5 bs i in grind (arith, nat_tests, over)
+  found_first low p at bs h b ended i e = rw (none_left low 5 bs i) (ended_there low p at (ltb 0 (length p.goals)) refl e)
   found_first low p at bs h b short i e = cc
   found_first low p at bs h b wrong i e = cc
   found_first low p at bs h b (field t v cs) i e =

@@ -30,6 +30,10 @@ pub record Laid (q : Problem) (low : ℕ) (p : Problem) (bs : List ℕ) (axs : L
   pub all : q ≡ extended p axs rs gs
   pub bytes : bs ≡ table_bytes axs rs labels gs
 
+-- tables by their parts
+pub same : (n : ℕ) (start : List ℕ) {axs bxs : List Axiom} {rs ss : List Rule} {gs hs : List Goal} → axs ≡ bxs → rs ≡ ss → gs ≡ hs → ◌≡◌ {A = Problem} (record { facts = n; start = start; axioms = axs; rules = rs; goals = gs }) (record { facts = n; start = start; axioms = bxs; rules = ss; goals = hs })
+same n start x y z = λ i. record { facts = n; start = start; axioms = x i; rules = y i; goals = z i }
+
 pub laid : {q p : Problem} {low : ℕ} {bs : List ℕ} → Grows q low p bs → (axs : List Axiom) × (rs : List Rule) × (labels : List (List ℕ)) × (gs : List Goal) × Laid q low p bs axs rs labels gs
 laid {q} (over h) = ([], [], [], [], grind (arith, append-nil q.axioms, append-nil q.rules, append-nil q.goals))
 laid {q} {p} (next h (an_axiom a f) g) =

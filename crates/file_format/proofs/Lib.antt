@@ -4,4 +4,5 @@ pub mod Growth
 pub mod Opening
 pub mod Fit
 pub mod Laid
+pub mod Backward
 pub mod Acceptance

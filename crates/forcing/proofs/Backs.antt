@@ -57,3 +57,8 @@ back_put {b = b} {ts} {us} r v x o =
       undone = ap (unset (set b v x)) (drop-append-le n us (v ∷ []) l) ∙ unset_push (set b v x) (drop n us) v ∙ ap (λ z. unset z (drop n us)) s ∙ r.undone;
       long = length-set b v x ∙ r.long;
     }
+
+pub unset_long : (a : List Value) (vs : List ℕ) → length (unset a vs) ≡ length a
+unfolding unset
+unset_long a [] = refl
+unset_long a (v ∷ vs) = length-set (unset a vs) v None ∙ unset_long a vs

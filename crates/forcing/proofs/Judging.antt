@@ -1,6 +1,7 @@
 -- A clause, literal by literal.
 use Rattle.std.proofs.lemmas.Grind.{common_steps}
-use Rattle.std.proofs.Common.{◌≡◌, Bool, true, false, cond, not, ◌<◌, length, get_or, arith, List, [], ◌∷◌, filter, Bor, Iter, ℤ, None, Some, Option, refl, ap, subst, is_some}
+use Rattle.std.proofs.Common.{◌≡◌, ℕ, Bool, true, false, cond, not, ◌+◌, ◌<◌, ◌≤◌, length, get_or, drop, arith, List, [], ◌∷◌, filter, Bor, Iter, ℤ, pos, None, Some, Option, refl, sym, ap, ◌∙◌, subst, is_some}
+use Rattle.std.proofs.lemmas.List.{at_drop_more, at_drop_all}
 use Rattle.std.proofs.lemmas.Iterator.{YieldsList, YieldsList-from_slice}
 use Rattle.std.proofs.lemmas.Iterator.Consumers.{YieldsList-from_filter, YieldsList-at}
 use Rattle.std.proofs.iter.Yields.{fronts}
@@ -38,3 +39,22 @@ none_from o h = grind (arith, common_steps)
 
 pub some_from : {A : Type 0} (o : Option A) → is_some o ≡ true → (x : A) × (o ≡ Some x)
 some_from o h = grind (arith, common_steps)
+
+-- a clause from its literal k on
+module _ (a : List Value) (c : List ℤ) (k : ℕ) where
+  pub live_false : k < length c → is_false (value a (get_or c k (pos 0))) ≡ true → live a (drop k c) ≡ live a (drop (k + 1) c)
+  unfolding live
+  live_false l e = at_drop_more (live a) c k (pos 0) l ∙ rw e
+
+  pub live_stands : k < length c → is_false (value a (get_or c k (pos 0))) ≡ false → live a (drop k c) ≡ get_or c k (pos 0) ∷ live a (drop (k + 1) c)
+  unfolding live
+  live_stands l e = at_drop_more (live a) c k (pos 0) l ∙ rw e
+
+  pub live_end : length c ≤ k → live a (drop k c) ≡ []
+  unfolding live
+  live_end l = at_drop_all (live a) c k l
+
+module _ (a : List Value) (c : List ℤ) (l : ℤ) (ls : List ℤ) (lives : live a c ≡ l ∷ ls) where
+  -- a literal that is true
+  pub calm_true : value a l ≡ Some true → Calm a c
+  calm_true e = calm_set a c l (omega (arith, ap length lives)) (sym (ap (λ z. get_or z 0 l) lives)) (λ o. let z : ◌≡◌ {A = Value} (Some true) None = sym e ∙ o in cc)

@@ -1,14 +1,19 @@
 -- The layers that find refusals.
-use Rattle.std.proofs.Common.{◌≡◌, ℕ, Bool, true, false, ◌&&◌, ltb, List, [], ◌∷◌, length, Some, None, ap}
+use Rattle.std.proofs.Common.{◌≡◌, ℕ, Bool, true, false, ◌&&◌, ltb, ◌⊎◌, List, [], ◌∷◌, length, Some, None, Option, sym, ap, ◌∙◌, inr}
 use Rattle.refusals.specs.declared.refusal.Refusal.{Refusal}
 use Rattle.runs.specs.Problems.{Axiom, Rule, Goal, Problem}
 use Rattle.refusals.specs.Limits.{most_facts, most_axioms, most_rules, most_goals}
 use Rattle.problem.specs.Lists.{every, fact_of, rises}
 use Rattle.problem.specs.Faults.{unless, short as briefly, shape, start_fault, axiom_shape, rule_shape, goal_shape}
-use Rattle.refusals.specs.declared.refusal.Refusal.TheVariants.{OutOfRange, Unordered}
+use Rattle.refusals.specs.declared.refusal.Refusal.TheVariants.{OutOfRange, Unordered, OutOfMemory}
 use Rattle.problem.specs.Views.{axiom_in, rule_in, goal_in}
 use Rattle.problem_file.specs.declared.faults.Layer.TheVariants.{Record}
-use Rattle.problem_file.specs.Layers.{layer_of}
+use Rattle.file_format.specs.Fields.{Found, ended, short, wrong, field}
+use Rattle.problem_file.specs.declared.faults.FieldFault.{FieldFault}
+use Rattle.problem_file.specs.declared.faults.RecordFault.{RecordFault}
+use Rattle.problem_file.specs.Layers.{of_field, of_record, layer_of}
+use Rattle.problem_file.specs.Says.{field_refusal}
+use Rattle.problem_file.specs.Next.{Next, stopped, tagged_next, Faulty}
 use Rattle.problem_file.specs.Opens.{facts_due}
 
 pub some_same : {A : Type 0} {x y : A} → Some x ≡ Some y → x ≡ y
@@ -52,3 +57,19 @@ start_tests true true r h = none_some h
 
 pub start_layer : (n : ℕ) (fs : List ℕ) (r : Refusal) → start_fault n fs ≡ Some r → Record ≡ layer_of r
 start_layer n fs r = start_tests (fact_of most_facts n && every (fact_of n) fs) (rises 0 fs) r
+
+-- a fault of the field is one of the record
+pub field_faulty : {A : Type 0} (t : ℕ) (use_of : List ℕ → Next A) (at : ℕ) (found : Found) (e : FieldFault) → field_refusal found ≡ Some e.refusal → e.at ≡ at → Faulty at (tagged_next t use_of found) (of_record (of_field e))
+field_faulty t use_of at ended e h k = none_some h
+field_faulty t use_of at (field u v bs) e h k = none_some h
+field_faulty t use_of at short e h k = record { stands = k; due = inr (ap stopped (some_same h), ap layer_of (some_same h)) }
+field_faulty t use_of at wrong e h k = record { stands = k; due = inr (ap stopped (some_same h), ap layer_of (some_same h)) }
+
+-- a refusal that is due, at the layer that finds it; or memory was short
+pub record Refuses (due : Option Refusal) (at : ℕ) (e : RecordFault) : Type 0 where
+  pub stands : e.at ≡ at
+  pub why : (e.refusal ≡ OutOfMemory) ⊎ ((due ≡ Some e.refusal) × (e.layer ≡ layer_of e.refusal))
+
+-- a refusal that is due at the record layer
+pub refuses : {due : Option Refusal} {at : ℕ} (e : RecordFault) (r : Refusal) → (e.refusal ≡ r) × (e.layer ≡ Record) × (e.at ≡ at) → due ≡ Some r → Record ≡ layer_of r → Refuses due at e
+refuses e r is d l = record { stands = is.2; why = inr (d ∙ ap Some (sym is.0), is.1 ∙ l ∙ ap layer_of (sym is.0)) }

@@ -19,7 +19,7 @@ pub first_some : (a b : Option Refusal) (r : Refusal) → a ≡ Some r → first
 first_some (Some x) b r e = e
 first_some None b r e = none_some e
 
-refused_some : (o : Option Refusal) (q : Problem) (r : Refusal) → o ≡ Some r → unless_refused o q ≡ refused r
+pub refused_some : (o : Option Refusal) (q : Problem) (r : Refusal) → o ≡ Some r → unless_refused o q ≡ refused r
 refused_some (Some x) q r e = ap refused (some_same e)
 refused_some None q r e = none_some e
 
@@ -35,11 +35,11 @@ module _ (p : Problem) (v : List ℕ) (r : Refusal) where
   rule_wrong x label i s = (ap (rule_due p) i ∙ first_some _ _ r s, ap (take_rule p) i ∙ refused_some _ _ r (first_some _ _ r s), rule_layer p r x s)
 
 -- a rule that is fine by itself, with its label, is judged by its own laws
-first_none : (a b : Option Refusal) → first a b ≡ None → (a ≡ None) × (b ≡ None)
+pub first_none : (a b : Option Refusal) → first a b ≡ None → (a ≡ None) × (b ≡ None)
 first_none None b e = (refl, e)
 first_none (Some r) b e = none_some (sym e)
 
-label_passed : (b : Bool) (law : Option Refusal) → unless b BadLabel None ≡ None → unless b BadLabel law ≡ law
+pub label_passed : (b : Bool) (law : Option Refusal) → unless b BadLabel None ≡ None → unless b BadLabel law ≡ law
 label_passed true law e = refl
 label_passed false law e = none_some (sym e)
 

@@ -1,12 +1,13 @@
 -- What is listed, as entries are added.
 use Rattle.std.proofs.lemmas.Grind.{common_steps}
-use Rattle.std.proofs.Common.{◌≡◌, ℕ, zero, suc, ◌+◌, ◌<◌, ◌≤◌, ◌⊎◌, List, [], ◌∷◌, ◌++◌, length, get_or, take, set, ℤ, pos, negsuc, Some, Option, refl, ap, ◌∙◌, subst, inl, inr, arith, length-set, length-take}
+use Rattle.std.proofs.Common.{◌≡◌, ℕ, zero, suc, ◌+◌, ◌<◌, ◌≤◌, ◌⊎◌, List, [], ◌∷◌, ◌++◌, length, get_or, take, set, ℤ, pos, negsuc, Some, Option, true, false, refl, ap, ◌∙◌, subst, inl, inr, arith, length-set, length-take}
 use Rattle.std.proofs.Math.IntN.{ℤ_discrete}
 use Rattle.std.proofs.lemmas.Bool.{cases_lt}
 use Rattle.std.proofs.lemmas.List.{get_or_append_left, get_or_push, length_push, take_more, get_or-take}
 use Rattle.std.specs.Option.{ForSome}
 use Rattle.holder.specs.Widest.{variable}
 use Rattle.holder.specs.Clauses.{size}
+use Rattle.trials.specs.Values.{sign}
 use Rattle.trials.specs.Exist.{Within, WithinClause}
 use Rattle.propagation.specs.declared.index.Entry.{Entry}
 use Rattle.propagation.specs.declared.index.Heads.{Heads}
@@ -91,19 +92,19 @@ module _ (s : Chains) (l : ℤ) (i places : ℕ) (good : Good places s) (within 
   new_in : length s.entries < length (added s l i).entries
   new_in = let h = (added_long s l i).0 in omega arith
 
-  added_grown : (m : ℤ) (j : ℕ) → Lists s m j → Lists (added s l i) m j
+  pub added_grown : (m : ℤ) (j : ℕ) → Lists s m j → Lists (added s l i) m j
   added_grown m j r = elim (ℤ_discrete m l) [
     | yes e ↦ rw (e, head_here s l i (omega (arith, good.long))) (there (length s.entries) j new_in (rw (new_entry s l i) (subst (λ z. Leads (added s l i).entries (head s z) j) e (kept_leads r))))
     | no ne ↦ rw (head_other s l m i ne) (kept_leads r)
   ]
 
-  added_listed : Lists (added s l i) l i
+  pub added_listed : Lists (added s l i) l i
   added_listed = rw (head_here s l i (omega (arith, good.long))) (here (length s.entries) i new_in (ap (λ (z : Entry). z.owner) (new_entry s l i)))
 
-  added_good : Good places (added s l i)
+  pub added_good : Good places (added s l i)
   added_good = record { long = (added_long s l i).1 ∙ good.long; falling = added_falling s l i good.starts good.falling; starts = added_starts s l i good.starts }
 
-  added_owned : (count : ℕ) → suc i ≤ count → Owned count s → Owned count (added s l i)
+  pub added_owned : (count : ℕ) → suc i ≤ count → Owned count s → Owned count (added s l i)
   added_owned count h o q k = let a = (added_long s l i).0 in elim (cases_lt q (length s.entries)) [
     | inl b ↦ omega (arith, ap (λ (z : Entry). z.owner) (old_entry s l i q b), o q b)
     | inr n ↦ (let e : q ≡ length s.entries = omega arith in omega (arith, ap (λ (z : ℕ). (entry_at (added s l i).entries z).owner) e, ap (λ (z : Entry). z.owner) (new_entry s l i)))
@@ -119,12 +120,12 @@ gains_trans : {places m n : ℕ} {s t u : Chains} → m ≤ n → Gains places m
 gains_trans l h k = record { good = k.good; grown = λ m j r. k.grown m j (h.grown m j r); owned = λ count e o. k.owned count e (h.owned count (omega arith) o) }
 
 module _ (places : ℕ) where
-  clause_gains : (s : Chains) (c : List ℤ) (i : ℕ) → Good places s → WithinClause places c → Gains places (suc i) s (added_clause s c i)
+  pub clause_gains : (s : Chains) (c : List ℤ) (i : ℕ) → Good places s → WithinClause places c → Gains places (suc i) s (added_clause s c i)
   unfolding added_clause
   clause_gains s [] i g w = gains_none g
   clause_gains s (l ∷ c) i g w = let a = added_gains s l i places g w.0 in gains_trans (omega arith) a (clause_gains (added s l i) c i a.good w.1)
 
-  clause_listed : (s : Chains) (c : List ℤ) (i : ℕ) → Good places s → WithinClause places c → (k : ℕ) → k < length c → Lists (added_clause s c i) (get_or c k (pos 0)) i
+  pub clause_listed : (s : Chains) (c : List ℤ) (i : ℕ) → Good places s → WithinClause places c → (k : ℕ) → k < length c → Lists (added_clause s c i) (get_or c k (pos 0)) i
   unfolding added_clause
   clause_listed s [] i g w k h = absurd (let z : ⊥ = omega arith in z)
   clause_listed s (l ∷ c) i g w zero h = (clause_gains (added s l i) c i (added_good s l i places g w.0) w.1).grown l i (added_listed s l i places g w.0)
@@ -165,7 +166,7 @@ unfolding added_clause
 clause_push s [] l i = refl
 clause_push s (m ∷ c) l i = clause_push (added s m i) c l i
 
-all_push : (s : Chains) (cs : List (List ℤ)) (c : List ℤ) (i : ℕ) → added_all s (cs ++ c ∷ []) i ≡ added_clause (added_all s cs i) c (i + length cs)
+pub all_push : (s : Chains) (cs : List (List ℤ)) (c : List ℤ) (i : ℕ) → added_all s (cs ++ c ∷ []) i ≡ added_clause (added_all s cs i) c (i + length cs)
 unfolding added_all
 all_push s [] c i = ap (added_clause s c) (let e : i ≡ i + 0 = omega arith in e)
 all_push s (d ∷ cs) c i = all_push (added_clause s d i) cs c (suc i) ∙ ap (added_clause (added_all (added_clause s d i) cs (suc i)) c) (let e : suc i + length cs ≡ i + suc (length cs) = omega arith in e)
@@ -205,3 +206,55 @@ pub within_at : (n : ℕ) (c : List ℤ) → WithinClause n c → (k : ℕ) → 
 within_at n [] w k l = absurd (let z : ⊥ = omega arith in z)
 within_at n (x ∷ c) w zero l = w.0
 within_at n (x ∷ c) w (suc k) l = within_at n c w.1 k (omega arith)
+
+-- entries of a clause, or of clauses, below count
+pub clause_owned : (places count : ℕ) (s : Chains) (c : List ℤ) (i : ℕ) → Good places s → WithinClause places c → i < count → Owned count s → Owned count (added_clause s c i)
+clause_owned places count s c i g w h o = (clause_gains places s c i g w).owned count (omega arith) o
+
+within_tail : (places : ℕ) (c : List ℤ) (cs : List (List ℤ)) → Within places (c ∷ cs) → Within places cs
+within_tail places c cs w i h = w (suc i) (omega arith)
+
+all_owned : (places count : ℕ) (s : Chains) (cs : List (List ℤ)) (i : ℕ) → Good places s → Within places cs → i + length cs ≤ count → Owned count s → Owned count (added_all s cs i)
+all_owned places count s cs i g w h o = (all_gains places s cs i g w).owned count h o
+
+-- nothing is added
+pub clause_none : (s : Chains) (i : ℕ) → added_clause s [] i ≡ s
+unfolding added_clause
+clause_none s i = refl
+
+pub all_none : (s : Chains) (i : ℕ) → added_all s [] i ≡ s
+unfolding added_all
+all_none s i = refl
+
+pub chains_eq : (hs hs' : List Heads) (es es' : List Entry) → hs ≡ hs' → es ≡ es' → ◌≡◌ {A = Chains} (record { heads = hs; entries = es }) (record { heads = hs'; entries = es' })
+chains_eq hs hs' es es' a b = cc
+
+-- the two lists after one entry more, by the sign
+pub added_true : (s : Chains) (l : ℤ) (i : ℕ) → Some true ≡ sign l → added s l i ≡ record { heads = set s.heads (variable l) (record { positive = Some (length s.entries); negative = (heads_at s.heads (variable l)).negative }); entries = s.entries ++ record { owner = i; next = (heads_at s.heads (variable l)).positive } ∷ [] }
+unfolding added
+added_true s (pos n) i e = refl
+added_true s (negsuc n) i e = absurd (cc)
+
+pub added_false : (s : Chains) (l : ℤ) (i : ℕ) → Some false ≡ sign l → added s l i ≡ record { heads = set s.heads (variable l) (record { positive = (heads_at s.heads (variable l)).positive; negative = Some (length s.entries) }); entries = s.entries ++ record { owner = i; next = (heads_at s.heads (variable l)).negative } ∷ [] }
+unfolding added
+added_false s (pos n) i e = absurd (cc)
+added_false s (negsuc n) i e = refl
+
+pub within_take : (places : ℕ) (c : List ℤ) (k : ℕ) → WithinClause places c → WithinClause places (take k c)
+within_take places c zero w = tt
+within_take places [] (suc k) w = tt
+within_take places (l ∷ c) (suc k) w = (w.0, within_take places c k w.1)
+
+set_bound : (xs : List ℕ) (n x v top : ℕ) → get_or xs v 0 ≤ top → x ≤ top → get_or (set xs n x) v 0 ≤ top
+set_bound xs n x v top h k = grind (arith, common_steps)
+
+-- of one variable: its chains begin within one entry more
+added_start : (s : Chains) (l : ℤ) (i v : ℕ) → Below (length s.entries) (heads_at s.heads v) → Below (length s.entries + 1) (heads_at (added s l i).heads v)
+unfolding added
+added_start s l i v h =
+    let n = length s.entries in
+    let a = variable l in
+    elim (set_either s.heads a v (begins (heads_at s.heads a) l n)) [
+      | inl k ↦ rw k.1 (begins_below n (heads_at s.heads a) l (subst (λ z. Below n (heads_at s.heads z)) k.0 h))
+      | inr k ↦ rw k (wider _ n h.0, wider _ n h.1)
+    ]

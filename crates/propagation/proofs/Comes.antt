@@ -12,7 +12,7 @@ unfolding unset
 unset_append a [] ws = refl
 unset_append a (v ∷ vs) ws = ap (λ z. set z v None) (unset_append a vs ws)
 
-back_trans : {a b d : List Value} {ts us ws : List ℕ} → Back a ts b us → Back b us d ws → Back a ts d ws
+pub back_trans : {a b d : List Value} {ts us ws : List ℕ} → Back a ts b us → Back b us d ws → Back a ts d ws
 back_trans {d = d} {ts} {us} {ws} r q =
     let l = back_within r in
     let m = length us in

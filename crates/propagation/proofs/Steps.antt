@@ -1,9 +1,9 @@
 -- One forced literal more.
 use Rattle.std.proofs.Common.{◌≡◌, ℕ, ◌<◌, List, [], ◌∷◌, ◌++◌, length, get_or, set, ℤ, sym, ap, ◌∙◌, subst, arith, None}
 use Rattle.holder.specs.Widest.{variable}
-use Rattle.trials.specs.Values.{Value, sign, holding}
+use Rattle.trials.specs.Values.{Value, sign, holding, opens}
 use Rattle.trials.specs.Forcing.{Forced, Forcing, rest, next}
-use Rattle.trials.specs.Exist.{Within, forced_within, open_at, sign_set}
+use Rattle.trials.specs.Exist.{Within, forced_within, open_at, opens_set, sign_set}
 use Rattle.forcing.specs.Boards.{Back}
 use Rattle.forcing.proofs.Backs.{back_none, back_put}
 use Rattle.trials.proofs.Confluence.{forcing_more}
@@ -31,3 +31,7 @@ module _ (cs : List (List ℤ)) (b : List Value) (l : ℤ) (f : Forced cs b l) (
       let same : holding b l ≡ set b v x = ap (λ (z : ℕ). set b z (sign l)) (sym named) ∙ ap (set b v) (sym signed) in
       let one : Forcing cs b (set b v x) = subst (λ (z : List Value). Forcing cs b z) same (next l f rest) in
       record { run = forcing_more cs r.run one; back = back_put r.back v x forced_open }
+
+module _ (cs : List (List ℤ)) (b : List Value) (l : ℤ) (f : Forced cs b l) (v : ℕ) (x : Value) (named : v ≡ variable l) (signed : x ≡ sign l) where
+  pub forced_fewer : Within (length b) cs → opens (set b v x) < opens b
+  forced_fewer w = omega (arith, opens_set b v x (forced_in cs b l f v x named signed w) (forced_open cs b l f v x named signed) (forced_set cs b l f v x named signed))

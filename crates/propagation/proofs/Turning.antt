@@ -8,13 +8,14 @@ use Rattle.propagation.specs.declared.index.Entry.{Entry}
 use Rattle.propagation.specs.Chains.{Chains, no_entry, entry_of, Leads, Falling, Owned, Indexes}
 use Rattle.propagation.specs.Waits.{Awake, NoneElse, Ready, against}
 use Rattle.propagation.proofs.Steps.{Come}
-use Rattle.propagation.proofs.Waiting.{awake_next}
+use Rattle.propagation.proofs.Waiting.{awake_next, against_within}
 
 -- all clauses are calm but those that wait and those of the chain from link on
 pub record Turning (cs : List (List ℤ)) (s : Chains) (a : List Value) (us : List ℕ) (from : ℕ) (link : Option ℕ) : Type 0 where
   pub within : Within (length a) cs
   pub indexed : Indexes cs (length a) s
   pub low : from ≤ length us
+  pub linked : ForSome link (λ p. p < length s.entries)
   pub awake : Awake cs a us from (λ i. Leads s.entries link i)
 
 pub turning : (cs : List (List ℤ)) (s : Chains) (a : List Value) (ts : List ℕ) (start : ℕ) → Ready cs s a ts start → (b : List Value) (us : List ℕ) (from : ℕ) → Come cs a ts b us → Awake cs b us from NoneElse → from < length us → (v : ℕ) (link : Option ℕ) → slice_get us from ≡ Some v → link ≡ against s v (get_or b v None) → Turning cs s b us (from + 1) link
@@ -24,6 +25,7 @@ turning cs s a ts start rd b us from m w l v link named e =
       within = subst (λ (z : ℕ). Within z cs) (sym m.back.long) rd.within;
       indexed = ix;
       low = omega arith;
+      linked = subst (λ k. ForSome k (λ p. p < length s.entries)) (sym e) (against_within (length b) s ix.good v (get_or b v None));
       awake = awake_next cs (length b) s ix b us from v link (sym (get_or_from_slice_get us from v 0 named)) e w;
     }
 

@@ -10,9 +10,9 @@ use Rattle.trials.specs.Exist.{open_at}
 use Rattle.trials.proofs.Below.{Below, below_put, below_value, set_not_open, live_below}
 use Rattle.forcing.proofs.Judging.{calm_set}
 use Rattle.std.proofs.lemmas.Option.{slice_get-get_or, get_or_from_slice_get}
-use Rattle.std.specs.Option.{option_and_then}
+use Rattle.std.specs.Option.{ForSome, option_and_then}
 use Rattle.propagation.specs.declared.index.Entry.{Entry}
-use Rattle.propagation.specs.Chains.{Chains, no_entry, entry_at, Leads, here, there, head, Indexes}
+use Rattle.propagation.specs.Chains.{Chains, no_entry, entry_at, Leads, here, there, head, Good, Indexes}
 use Rattle.propagation.specs.Waits.{Watched, calm, waits, other, Awake, NoneElse, against}
 
 open_back : (b d : List Value) → Below b d → (l : ℤ) → value d l ≡ None → (x : Value) → value b l ≡ x → value b l ≡ None
@@ -129,3 +129,19 @@ module _ (cs : List (List ℤ)) (es : List Entry) (b : List Value) (us : List �
 
   pub awake_quiet : length us ≤ from → Awake cs b us from NoneElse → Quiet cs b
   awake_quiet h e f g = grind (arith, common_steps)
+
+module _ (b : List Value) (v : ℕ) (x : Value) (o : get_or b v None ≡ None) (c : List ℤ) (us : List ℕ) (from : ℕ) (E : Type 0) where
+  pub calm_put : from ≤ length us → Calm b c → Watched c (set b v x) (us ++ v ∷ []) from E
+  calm_put h k = watched_put b v x o c us from E h (calm k)
+
+pub awake_put : (cs : List (List ℤ)) (b : List Value) (us : List ℕ) (from v : ℕ) (x : Value) (E : ℕ → Type 0) → get_or b v None ≡ None → from ≤ length us → Awake cs b us from E → Awake cs (set b v x) (us ++ v ∷ []) from E
+awake_put cs b us from v x E o l a i h = watched_put b v x o (get_or cs i []) us from (E i) l (a i h)
+
+pub quiet_put : (cs : List (List ℤ)) (b : List Value) (us : List ℕ) (v : ℕ) (x : Value) → get_or b v None ≡ None → Quiet cs b → Awake cs (set b v x) (us ++ v ∷ []) (length us) NoneElse
+quiet_put cs b us v x o q i h = calm_put b v x o (get_or cs i []) us (length us) ⊥ (omega arith) (q i h)
+
+-- a chain begins within the entries
+pub against_within : (places : ℕ) (s : Chains) → Good places s → (v : ℕ) (x : Value) → ForSome (against s v x) (λ p. p < length s.entries)
+against_within places s g v None p e = absurd (cc)
+against_within places s g v (Some true) p e = (g.starts v).1 p e
+against_within places s g v (Some false) p e = (g.starts v).0 p e

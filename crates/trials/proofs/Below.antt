@@ -1,6 +1,6 @@
 -- Assignments that say more.
 use Rattle.std.proofs.lemmas.Grind.{common_steps}
-use Rattle.std.proofs.Common.{◌≡◌, ℕ, List, [], ◌∷◌, length, get_or, set, replicate, arith, ℤ, sym, refl, ap, ◌∙◌, inl, inr, None, Some, true, Bool}
+use Rattle.std.proofs.Common.{◌≡◌, ℕ, List, [], ◌∷◌, length, get_or, set, replicate, arith, ℤ, sym, refl, ap, ◌∙◌, inl, inr, None, Some, true, false, Bool}
 use Rattle.std.proofs.lemmas.Bool.{cases_lt}
 use Rattle.std.proofs.lemmas.List.{ext_get_or, get_or-replicate, get_or_past, length-replicate}
 use Rattle.trials.specs.Values.{Value, flip, value, sign, holding}
@@ -63,3 +63,6 @@ below_both a b e f g = ext_get_or None a b e (λ i l. same_value (get_or a i Non
 
 pub replicate_at : {X : Type 0} (k i : ℕ) (x : X) → get_or (replicate k x) i x ≡ x
 replicate_at k i x = elim (cases_lt i k) [ inl l ↦ get_or-replicate k i x x l | inr p ↦ get_or_past (replicate k x) i x (omega (arith, length-replicate k x)) ]
+
+pub true_false : ◌≡◌ {A = Value} (Some true) (Some false) → ⊥
+true_false e = cc
