@@ -12,7 +12,7 @@ picked a s e from n p q (Some i) h = let h0 = h.0 in let h1 = h.1 in record { lo
 pub returns : goal.returns
 returns c =
     let a = c.args.values.now in
-    picked a _ _ c.args.from c.args.n c.new.ensures.start c.new.ensures.end c.find.result (first_from_inclusive _ _ _ c.find.result (λ v. get_or a v None ≡ None) (λ v. get_or a v None ≢ None) c.find.ensures.ran
+    picked a _ _ c.args.from c.args.n (omega arith) (omega arith) c.find.result (first_from_inclusive _ _ _ c.find.result (λ v. get_or a v None ≡ None) (λ v. get_or a v None ≢ None) c.find.ensures.ran
     (λ x q k. let e : true ≡ is_none (get_or a x None) = search (rules, tests) in none_is _ (sym e))
     (λ x q k. (search (rules, tests), λ o. let e : false ≡ is_none (get_or a x None) = search (rules, tests) in let t : false ≡ true = e ∙ ap is_none o in cc))
     c.new.ensures.exhausted)
