@@ -36,13 +36,18 @@ pub fn value_of(values: &[Option<bool>], lit: i32) -> Option<bool>
     value_at(values, variable(lit)).map(|value| value == (lit >= 0))
 }
 
+// Whether a literal is false: its variable has the value that it denies.
+fn is_false(values: &[Option<bool>], lit: i32) -> bool
+    ensures { result ≡ vals.is_false (vals.value values.now lit) }
+{
+    value_at(values, variable(lit)) == Some(lit < 0)
+}
+
 // Whether a clause is wholly false, or forces a literal.
 pub fn judge(values: &[Option<bool>], clause: &[i32]) -> Judgement
     ensures { JudgedAs values.now clause.now result }
 {
-    let mut live = clause
-        .iter()
-        .filter(|lit| value_of(values, **lit) != Some(false));
+    let mut live = clause.iter().filter(|lit| !is_false(values, **lit));
     let Some(lit) = live.next() else {
         return Judgement::Dead;
     };

@@ -10,7 +10,17 @@ use crate::judge::value_at;
 fn first_open(values: &[Option<bool>], from: usize, n: usize) -> Option<usize>
     ensures { Picked from n values.now result }
 {
-    (from..=n).find(|v| value_at(values, *v).is_none())
+    // Not by `find` over `from..=n`: its tests of the range's end take as long again as the walk.
+    for v in from..values.len() {
+        if v > n {
+            return None;
+        }
+        if values[v].is_none() {
+            return Some(v);
+        }
+    }
+    let past = from.max(values.len());
+    if past <= n { Some(past) } else { None }
 }
 
 fn write_bytes(values: &[Option<bool>], n: usize, buffer: &mut [u8])
