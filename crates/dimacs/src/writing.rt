@@ -7,7 +7,7 @@ ghost use Rattle.dimacs.specs.Text.{literal_text, clause_text, page_text};
 use holder::held::Holder;
 use std::alloc::{AllocError, Global};
 
-// A literal and a space. The space is pushed: as part of what `write!` writes it would take as long as the number again.
+// A literal and a space. The space is pushed, which takes less time than one piece more for `write!`.
 fn write_literal(out: &mut String, l: i32) -> Result<(), AllocError>
     ensures { OnOk result (string_bytes out.new ≡ string_bytes out.old ++ literal_text l) }
 {
